@@ -1,0 +1,8 @@
+-- to believe, in reading order
+pub mod Text
+pub mod Sheet
+pub mod Reading
+pub mod Causes
+pub mod Examples
+-- proved of them
+pub mod laws

@@ -1,0 +1,5 @@
+-- what is proved of the definitions
+pub mod Tests
+pub mod Fields
+pub mod Lines
+pub mod Refusals
