@@ -3,6 +3,7 @@ pub mod Text
 pub mod Sheet
 pub mod Reading
 pub mod Causes
+pub mod Claims
 pub mod Examples
 -- proved of them
 pub mod laws

@@ -3,3 +3,5 @@ pub mod Tests
 pub mod Fields
 pub mod Lines
 pub mod Refusals
+pub mod Steps
+pub mod Inverse

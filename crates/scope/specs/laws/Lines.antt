@@ -5,17 +5,16 @@ use native.Mathlib.Nat.{suc-mul}
 use native.Mathlib.Omega.{arith}
 use mathlib.Core.Bool.{Bool, true, false, cond}
 use mathlib.Core.List.{List, [], _∷_, _++_}
-use mathlib.Core.Logic.{_↔_, _≢_}
+use mathlib.Core.Logic.{_↔_}
 use mathlib.Core.Option.{Option, none, some, Option·none-ne-some}
 use mathlib.Core.Path.{_≡_, refl, sym, ap, ap₂, subst, _∙_}
 use lib.Dec.{eqb}
 use lib.ListN.{length, take, drop, length-append, take-append-drop}
 use lib.Seq.{take-at, drop-at}
-use borrow.Author.Tests.{eqb-true, eq-eqb}
+use borrow.Author.Tests.{eqb-true}
 use Rattle.scope.specs.Sheet.{Number, fieldSize, field, fits, Letter, H, N, A, O, R, W, Z, letterByte, Line, line, fieldsBytes, lineBytes, All}
-use Rattle.scope.specs.Reading.{same, when, fieldOf, also, fieldsOf, letterFrom, letterOf, joined, lineOf, lineSize}
-use Rattle.scope.specs.laws.Tests.{clash}
-use Rattle.scope.specs.laws.Fields.{same-true, same-refl, length-field, when-some, field-iff}
+use Rattle.scope.specs.Reading.{same, fieldOf, also, fieldsOf, letterFrom, letterOf, joined, lineOf, lineSize}
+use Rattle.scope.specs.laws.Fields.{same-true, length-field, when-some, field-iff}
 
 -- ---- fields
 

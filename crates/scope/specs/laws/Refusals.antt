@@ -1,16 +1,19 @@
 -- A sheet is refused exactly for its first cause, and accepted exactly if it has none. Assumes nothing.
-use Prim.Native.Nat.{ℕ, zero, suc, _+_, _-_, _≤_, _<_}
+use Prim.Native.Nat.{ℕ, zero, suc, _+_, _-_, _<_}
 use native.Mathlib.Nat.{add-zero, zero-add, eq-or-lt-of-le, le-of-suc-le-suc}
 use native.Mathlib.Omega.{arith}
-use mathlib.Core.Bool.{Bool, true, false, cond}
+use mathlib.Core.Bool.{Bool, true, false, not, _&&_}
 use mathlib.Core.List.{List, [], _∷_}
 use mathlib.Core.Logic.{_↔_, _≢_, _⊎_, inl, inr}
 use mathlib.Core.Option.{Option, none, some, Option·none-ne-some, Option·some-injective}
 use mathlib.Core.Path.{_≡_, refl, sym, ap, subst, subst₂, _∙_}
-use lib.ListN.{length}
-use Rattle.scope.specs.Sheet.{Sheet}
-use Rattle.scope.specs.Reading.{Row, firstFault, started, add, Read, accepted, refused, onward, lengthOk, lineCount, lineAt, testsAt, readFrom, read}
-use Rattle.scope.specs.Causes.{Met, First, here, later, before, Passed, Cause, size, line, NoCause}
+use lib.Dec.{eqb}
+use lib.ListN.{length as size-of, drop}
+use borrow.Author.Tests.{eqb-true}
+use Rattle.scope.specs.Sheet.{Number, Sheet, Letter, H, N, A, O, R, W, Z, Line, mostSwitches, mostFaults, All}
+use Rattle.scope.specs.Reading.{upTo, at, zeros, Row, firstFault, rows, tests, started, accepted, refused, lengthOk, lineCount, lineAt, testsAt, readFrom, read}
+use Rattle.scope.specs.Causes.{Met, First, here, later, before, Passed, Cause, size, line, NoCause, SheetRefusal, length, malformed, letter, range, many, field, count}
+use Rattle.scope.specs.laws.Tests.{both}
 
 -- ---- the first unmet test
 
@@ -87,9 +90,9 @@ module _ (n : ℕ) (s : List ℕ) where
     turned : (c place : ℕ) → Cause n s c place → Told
 
   told : Told
-  told = go (lengthOk n (length s)) refl
+  told = go (lengthOk n (size-of s)) refl
     where
-      go : (t : Bool) → lengthOk n (length s) ≡ t → Told
+      go : (t : Bool) → lengthOk n (size-of s) ≡ t → Told
       go false e = turned 1 0 (size e)
       go true e = lines (search-lines (lineCount n s))
         where
@@ -117,3 +120,46 @@ module _ (n : ℕ) (s : List ℕ) where
       go : Told → read n s ≡ accepted t → NoCause n s × (t ≡ before n s (lineCount n s))
       go (fine h) e = let f : accepted (before n s (lineCount n s)) ≡ accepted t = sym (no-cause-accepts h) ∙ e in (h, cc)
       go (turned c p h) e = absurd (not-both (sym e ∙ cause-refuses h))
+
+-- ---- which numbers
+
+first-in : (P : ℕ → Type 0) (rs : List Row) → All (λ r. P (r .0)) rs → {c : ℕ} → First c rs → P c
+first-in P rs a f = go f a
+  where
+    go : {c : ℕ} {rs : List Row} → First c rs → All (λ r. P (r .0)) rs → P c
+    go here (p, a) = p
+    go (later f) (p, a) = go f a
+
+-- past the first test, which is met if it is not the one
+first-cons : (m : ℕ) (b : Bool) (rs : List Row) {c : ℕ} → First c ((m, b) ∷ rs) → (c ≡ m) ⊎ ((b ≡ true) × First c rs)
+first-cons m true rs f = inr (refl, tail f)
+  where
+    tail : {c : ℕ} → First c ((m, true) ∷ rs) → First c rs
+    tail (later f) = f
+first-cons m false rs f = inl (head f)
+  where
+    head : {c : ℕ} → First c ((m, false) ∷ rs) → c ≡ m
+    head here = refl
+
+rows-number : (t : Sheet) (k : ℕ) (last : Bool) (c : Letter) (xs : List Number) {m : ℕ} → First m (rows t k last c xs) → SheetRefusal m (suc k)
+unfolding rows
+rows-number t k last H xs {m} f = go (first-cons 3 (eqb k 0 && not last) ((4, upTo mostSwitches (at xs 0) && upTo mostFaults (at xs 1)) ∷ (6, zeros (drop 2 xs)) ∷ []) f)
+  where
+    go : (m ≡ 3) ⊎ (((eqb k 0 && not last) ≡ true) × First m ((4, upTo mostSwitches (at xs 0) && upTo mostFaults (at xs 1)) ∷ (6, zeros (drop 2 xs)) ∷ [])) → SheetRefusal m (suc k)
+    go (inl e) = rw e letter
+    go (inr (b, g)) = let z : k ≡ 0 = eqb-true k 0 (both (eqb k 0) (not last) b .0) in rw z (first-in (λ c. SheetRefusal c 1) ((4, upTo mostSwitches (at xs 0) && upTo mostFaults (at xs 1)) ∷ (6, zeros (drop 2 xs)) ∷ []) (range, (field, tt)) g)
+rows-number t k last N xs f = first-in (λ c. SheetRefusal c (suc k)) (rows t k last N xs) (letter, (many, (field, tt))) f
+rows-number t k last A xs f = first-in (λ c. SheetRefusal c (suc k)) (rows t k last A xs) (letter, (many, (field, tt))) f
+rows-number t k last O xs f = first-in (λ c. SheetRefusal c (suc k)) (rows t k last O xs) (letter, (many, (field, tt))) f
+rows-number t k last R xs f = first-in (λ c. SheetRefusal c (suc k)) (rows t k last R xs) (letter, (many, (field, tt))) f
+rows-number t k last W xs f = first-in (λ c. SheetRefusal c (suc k)) (rows t k last W xs) (letter, (many, (field, tt))) f
+rows-number t k last Z xs f = first-in (λ c. SheetRefusal c (suc k)) (rows t k last Z xs) (letter, (field, (count, tt))) f
+
+tests-number : (t : Sheet) (k : ℕ) (last : Bool) (o : Option Line) {m : ℕ} → First m (tests t k last o) → SheetRefusal m (suc k)
+tests-number t k last none here = malformed
+tests-number t k last (some l) f = rows-number t k last (l .letter) (l .fields) f
+
+pub cause-number : (n : ℕ) (s : List ℕ) {c place : ℕ} → Cause n s c place → SheetRefusal c place
+unfolding testsAt
+cause-number n s (size h) = length
+cause-number n s (line k h l p f) = tests-number (before n s k) k (eqb (suc k) (lineCount n s)) (lineAt n s k) f

@@ -1,6 +1,6 @@
 -- Tests, and what follows from them. Assumes nothing.
 use mathlib.Core.Bool.{Bool, true, false, _&&_, true≢false}
-use mathlib.Core.Option.{Option, none, some, Option·none-ne-some}
+use mathlib.Core.Option.{Option, none, some}
 use mathlib.Core.Path.{_≡_, refl, sym, _∙_}
 
 -- a test that both passes and fails
