@@ -3,6 +3,10 @@ pub mod Text
 pub mod Sheet
 pub mod Reading
 pub mod Causes
+pub mod Meaning
+pub mod Pick
+pub mod Rule
+pub mod Jobs
 pub mod Claims
 pub mod Examples
 -- proved of them

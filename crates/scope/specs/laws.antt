@@ -5,3 +5,6 @@ pub mod Lines
 pub mod Refusals
 pub mod Steps
 pub mod Inverse
+pub mod Points
+pub mod Wishes
+pub mod Picks

@@ -1,6 +1,6 @@
 -- A sheet is refused exactly for its first cause, and accepted exactly if it has none. Assumes nothing.
 use Prim.Native.Nat.{ℕ, zero, suc, _+_, _-_, _<_}
-use native.Mathlib.Nat.{add-zero, zero-add, eq-or-lt-of-le, le-of-suc-le-suc}
+use native.Mathlib.Nat.{add-zero, zero-add}
 use native.Mathlib.Omega.{arith}
 use mathlib.Core.Bool.{Bool, true, false, not, _&&_}
 use mathlib.Core.List.{List, [], _∷_}
@@ -13,7 +13,7 @@ use borrow.Author.Tests.{eqb-true}
 use Rattle.scope.specs.Sheet.{Number, Sheet, Letter, H, N, A, O, R, W, Z, Line, mostSwitches, mostFaults, All}
 use Rattle.scope.specs.Reading.{upTo, at, zeros, Row, firstFault, rows, tests, started, accepted, refused, lengthOk, lineCount, lineAt, testsAt, readFrom, read}
 use Rattle.scope.specs.Causes.{Met, First, here, later, before, Passed, Cause, size, line, NoCause, SheetRefusal, length, malformed, letter, range, many, field, count}
-use Rattle.scope.specs.laws.Tests.{both}
+use Rattle.scope.specs.laws.Tests.{both, up-to}
 
 -- ---- the first unmet test
 
@@ -34,14 +34,6 @@ first c ((m, false) ∷ rs) e = subst (λ x. First x ((m, false) ∷ rs)) (Optio
 pub first-some : {c : ℕ} {rs : List Row} → First c rs → firstFault rs ≡ some c
 first-some here = refl
 first-some (later f) = first-some f
-
--- what holds below k and at k holds below suc k
-pub up-to : {C : ℕ → Type 0} (k : ℕ) → ((j : ℕ) → j < k → C j) → C k → (j : ℕ) → j < suc k → C j
-up-to {C} k below at j h = go (eq-or-lt-of-le (le-of-suc-le-suc h))
-  where
-    go : (j ≡ k) ⊎ (j < k) → C j
-    go (inl e) = subst C (sym e) at
-    go (inr l) = below j l
 
 -- ---- line by line
 module _ (n : ℕ) (s : List ℕ) where
