@@ -3,7 +3,7 @@ use Prim.Native.Nat.{ℕ, zero, suc, _<_}
 use mathlib.Core.Bool.{true, false}
 use mathlib.Core.List.{List, _∷_}
 use mathlib.Core.Path.{_≡_}
-use lib.ListN.{length as size-of}
+use lib.ListN.{length}
 use Rattle.scope.specs.Sheet.{Sheet, All}
 use Rattle.scope.specs.Reading.{Row, started, add, lengthOk, lineCount, lineAt, testsAt}
 
@@ -18,13 +18,13 @@ pub data First (c : ℕ) : List Row → Type 0 where
 
 -- the numbers by which a sheet is turned down; 1 has no line, and 4 is of line 1
 pub data SheetRefusal : ℕ → ℕ → Type 0 where
-  length : SheetRefusal 1 0
+  wrongLength : SheetRefusal 1 0
   malformed : {k : ℕ} → SheetRefusal 2 (suc k)
-  letter : {k : ℕ} → SheetRefusal 3 (suc k)
-  range : SheetRefusal 4 1
-  many : {k : ℕ} → SheetRefusal 5 (suc k)
-  field : {k : ℕ} → SheetRefusal 6 (suc k)
-  count : {k : ℕ} → SheetRefusal 7 (suc k)
+  wrongLetter : {k : ℕ} → SheetRefusal 3 (suc k)
+  outOfRange : SheetRefusal 4 1
+  tooMany : {k : ℕ} → SheetRefusal 5 (suc k)
+  wrongField : {k : ℕ} → SheetRefusal 6 (suc k)
+  wrongCount : {k : ℕ} → SheetRefusal 7 (suc k)
 
 module _ (n : ℕ) (s : List ℕ) where
   -- what the first k lines say
@@ -37,9 +37,9 @@ module _ (n : ℕ) (s : List ℕ) where
 
   -- number and place of a refusal; lines are numbered from 1
   pub data Cause : ℕ → ℕ → Type 0 where
-    size : lengthOk n (size-of s) ≡ false → Cause 1 0
-    line : {c : ℕ} (k : ℕ) → lengthOk n (size-of s) ≡ true → k < lineCount n s → ((j : ℕ) → j < k → Passed j) → First c (testsAt n s (before k) k) → Cause c (suc k)
+    size : lengthOk n (length s) ≡ false → Cause 1 0
+    line : {c : ℕ} (k : ℕ) → lengthOk n (length s) ≡ true → k < lineCount n s → ((j : ℕ) → j < k → Passed j) → First c (testsAt n s (before k) k) → Cause c (suc k)
 
   pub record NoCause : Type 0 where
-    pub size : lengthOk n (size-of s) ≡ true
+    pub size : lengthOk n (length s) ≡ true
     pub lines : (k : ℕ) → k < lineCount n s → Passed k

@@ -1,18 +1,30 @@
 -- What is claimed of the definitions, each claim with its proof. Assumes nothing.
-use Prim.Native.Nat.{ℕ, _≤_}
+use Prim.Native.Nat.{ℕ, _≤_, _<_}
 use mathlib.Core.Bool.{true}
 use mathlib.Core.List.{List}
 use mathlib.Core.Logic.{_↔_}
 use mathlib.Core.Option.{some}
 use mathlib.Core.Path.{_≡_}
-use Rattle.scope.specs.Sheet.{Number, field, fits, Line, Sheet, sheetBytes, Valid}
+use Rattle.scope.specs.Sheet.{Number, field, fits, Line, Clause, Gate, Sheet, sheet, sheetBytes, fieldCount, All, Valid}
 use Rattle.scope.specs.Reading.{fieldOf, lineOf, accepted, refused, read}
 use Rattle.scope.specs.Causes.{Cause, SheetRefusal}
+use lib.ListN.{length, getD, take}
+use Rattle.scope.specs.Meaning.{plans, patterns, sameSet, switchOn, kept, cost}
+use Rattle.scope.specs.Jobs.{task, answer, shortRun, rating}
+use Rattle.scope.specs.Demands.{list, Demand2, Demand3, ShortRun, Rates}
+use Rattle.scope.specs.Program.{outputRows}
 use Rattle.scope.specs.laws.Fields as fields
 use Rattle.scope.specs.laws.Lines as lines
 use Rattle.scope.specs.laws.Lines.{Printed}
 use Rattle.scope.specs.laws.Refusals as refusals
 use Rattle.scope.specs.laws.Inverse as inverse
+use Rattle.scope.specs.laws.Wishes as wishes
+use Rattle.scope.specs.laws.Wishes.{Reordered}
+use Rattle.scope.specs.laws.Picks.{Before}
+use Rattle.scope.specs.laws.Rules as rules
+use Rattle.scope.specs.laws.Rules.{lead}
+use Rattle.scope.specs.laws.Demands as demands
+use Rattle.scope.specs.laws.Outputs as outputs
 
 -- ---- reading, for lines of n fields
 
@@ -35,3 +47,37 @@ sheet-refused = refusals.refused-iff
 -- by one of the numbers 1 to 7; 4 names line 1
 pub refusal-number : (n : ℕ) (s : List ℕ) {c place : ℕ} → Cause n s c place → SheetRefusal c place
 refusal-number = refusals.cause-number
+
+-- ---- plans
+
+-- of two wishes with the same set both are kept or both broken, and the order of wishes does not count
+pub wishes-alike : (t : Sheet) (plan : ℕ) (u w : Clause) → sameSet u w ≡ true → kept t plan u ≡ kept t plan w
+unfolding kept
+wishes-alike t plan = wishes.same-keeps (switchOn t plan)
+
+pub order-free : (a f : ℕ) (gs : List Gate) (rs : List ℕ) {ws us : List Clause} (plan : ℕ) → Reordered ws us → cost (sheet a f gs rs ws) plan ≡ cost (sheet a f gs rs us) plan
+order-free = wishes.cost-order
+
+pub rating-claim : (s : List ℕ) (p : ℕ) (t : Sheet) → read fieldCount s ≡ accepted t → p < plans t → Rates t p (rating s p)
+rating-claim = demands.rating-right
+
+-- ---- demands 2 and 3
+
+pub demand2 : (s lent : List ℕ) (t : Sheet) → read fieldCount s ≡ accepted t → Demand2 t lent (answer s lent)
+demand2 = demands.demand2
+
+pub demand3 : (s lent : List ℕ) → Demand3 s lent
+demand3 = demands.demand3
+
+pub short-claim : (s l : List ℕ) (t : Sheet) → read fieldCount s ≡ accepted t → ((i : ℕ) → i < length l → getD l i 0 < patterns t) → ShortRun t l (shortRun s l)
+short-claim = demands.short-run
+
+-- along a full run each candidate is strictly worse than the one before
+pub candidates-worse : (t : Sheet) (i j : ℕ) → i < j → j < length (list t) → Before (cost t) (lead (task t) (take i (list t))) (lead (task t) (take j (list t)))
+candidates-worse t = rules.leads-worse (task t) (list t) (rules.settled (task t) .ruled)
+
+-- ---- the program
+
+-- every figure that it prints fits its five columns
+pub output-fits : (s : List ℕ) → All (λ r. All (λ x. fits x ≡ true) (r .fields)) (outputRows s)
+output-fits = outputs.output-fits

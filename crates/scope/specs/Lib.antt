@@ -7,6 +7,8 @@ pub mod Meaning
 pub mod Pick
 pub mod Rule
 pub mod Jobs
+pub mod Demands
+pub mod Program
 pub mod Claims
 pub mod Examples
 -- proved of them

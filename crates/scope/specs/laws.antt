@@ -8,3 +8,7 @@ pub mod Inverse
 pub mod Points
 pub mod Wishes
 pub mod Picks
+pub mod Pigeon
+pub mod Rules
+pub mod Demands
+pub mod Outputs

@@ -152,7 +152,7 @@ length-text n (l ∷ r) (g, h) =
     let e : length (lineBytes l) ≡ lineSize n = length-line l (g .fit) ∙ ap lineSize (g .count) in
     omega (arith, length-append (lineBytes l) (text r), length-text n r h, suc-mul (length r) (lineSize n))
 
-all-append : {X : Type 0} (P : X → Type 0) (r s : List X) → All P r → All P s → All P (r ++ s)
+pub all-append : {X : Type 0} (P : X → Type 0) (r s : List X) → All P r → All P s → All P (r ++ s)
 all-append P [] s g h = h
 all-append P (x ∷ r) s (p, g) h = (p, all-append P r s g h)
 
@@ -255,7 +255,7 @@ module _ (n : ℕ) (wide : 3 ≤ n) where
 
 -- ---- the numbers of a valid sheet fit their fields
 
-plus-fits : (p : ℕ) → p ≤ 99999 → fits (plus p) ≡ true
+pub plus-fits : (p : ℕ) → p ≤ 99999 → fits (plus p) ≡ true
 plus-fits p h = le-leb p 99999 h
 
 literal-fits : (x : Number) → 1 ≤ x .size → x .size ≤ 9999 → fits x ≡ true

@@ -8,11 +8,11 @@ use mathlib.Core.Logic.{_↔_, _≢_, _⊎_, inl, inr}
 use mathlib.Core.Option.{Option, none, some, Option·none-ne-some, Option·some-injective}
 use mathlib.Core.Path.{_≡_, refl, sym, ap, subst, subst₂, _∙_}
 use lib.Dec.{eqb}
-use lib.ListN.{length as size-of, drop}
+use lib.ListN.{length, drop}
 use borrow.Author.Tests.{eqb-true}
 use Rattle.scope.specs.Sheet.{Number, Sheet, Letter, H, N, A, O, R, W, Z, Line, mostSwitches, mostFaults, All}
 use Rattle.scope.specs.Reading.{upTo, at, zeros, Row, firstFault, rows, tests, started, accepted, refused, lengthOk, lineCount, lineAt, testsAt, readFrom, read}
-use Rattle.scope.specs.Causes.{Met, First, here, later, before, Passed, Cause, size, line, NoCause, SheetRefusal, length, malformed, letter, range, many, field, count}
+use Rattle.scope.specs.Causes.{Met, First, here, later, before, Passed, Cause, size, line, NoCause, SheetRefusal, wrongLength, malformed, wrongLetter, outOfRange, tooMany, wrongField, wrongCount}
 use Rattle.scope.specs.laws.Tests.{both, up-to}
 
 -- ---- the first unmet test
@@ -82,9 +82,9 @@ module _ (n : ℕ) (s : List ℕ) where
     turned : (c place : ℕ) → Cause n s c place → Told
 
   told : Told
-  told = go (lengthOk n (size-of s)) refl
+  told = go (lengthOk n (length s)) refl
     where
-      go : (t : Bool) → lengthOk n (size-of s) ≡ t → Told
+      go : (t : Bool) → lengthOk n (length s) ≡ t → Told
       go false e = turned 1 0 (size e)
       go true e = lines (search-lines (lineCount n s))
         where
@@ -138,14 +138,14 @@ unfolding rows
 rows-number t k last H xs {m} f = go (first-cons 3 (eqb k 0 && not last) ((4, upTo mostSwitches (at xs 0) && upTo mostFaults (at xs 1)) ∷ (6, zeros (drop 2 xs)) ∷ []) f)
   where
     go : (m ≡ 3) ⊎ (((eqb k 0 && not last) ≡ true) × First m ((4, upTo mostSwitches (at xs 0) && upTo mostFaults (at xs 1)) ∷ (6, zeros (drop 2 xs)) ∷ [])) → SheetRefusal m (suc k)
-    go (inl e) = rw e letter
-    go (inr (b, g)) = let z : k ≡ 0 = eqb-true k 0 (both (eqb k 0) (not last) b .0) in rw z (first-in (λ c. SheetRefusal c 1) ((4, upTo mostSwitches (at xs 0) && upTo mostFaults (at xs 1)) ∷ (6, zeros (drop 2 xs)) ∷ []) (range, (field, tt)) g)
-rows-number t k last N xs f = first-in (λ c. SheetRefusal c (suc k)) (rows t k last N xs) (letter, (many, (field, tt))) f
-rows-number t k last A xs f = first-in (λ c. SheetRefusal c (suc k)) (rows t k last A xs) (letter, (many, (field, tt))) f
-rows-number t k last O xs f = first-in (λ c. SheetRefusal c (suc k)) (rows t k last O xs) (letter, (many, (field, tt))) f
-rows-number t k last R xs f = first-in (λ c. SheetRefusal c (suc k)) (rows t k last R xs) (letter, (many, (field, tt))) f
-rows-number t k last W xs f = first-in (λ c. SheetRefusal c (suc k)) (rows t k last W xs) (letter, (many, (field, tt))) f
-rows-number t k last Z xs f = first-in (λ c. SheetRefusal c (suc k)) (rows t k last Z xs) (letter, (field, (count, tt))) f
+    go (inl e) = rw e wrongLetter
+    go (inr (b, g)) = let z : k ≡ 0 = eqb-true k 0 (both (eqb k 0) (not last) b .0) in rw z (first-in (λ c. SheetRefusal c 1) ((4, upTo mostSwitches (at xs 0) && upTo mostFaults (at xs 1)) ∷ (6, zeros (drop 2 xs)) ∷ []) (outOfRange, (wrongField, tt)) g)
+rows-number t k last N xs f = first-in (λ c. SheetRefusal c (suc k)) (rows t k last N xs) (wrongLetter, (tooMany, (wrongField, tt))) f
+rows-number t k last A xs f = first-in (λ c. SheetRefusal c (suc k)) (rows t k last A xs) (wrongLetter, (tooMany, (wrongField, tt))) f
+rows-number t k last O xs f = first-in (λ c. SheetRefusal c (suc k)) (rows t k last O xs) (wrongLetter, (tooMany, (wrongField, tt))) f
+rows-number t k last R xs f = first-in (λ c. SheetRefusal c (suc k)) (rows t k last R xs) (wrongLetter, (tooMany, (wrongField, tt))) f
+rows-number t k last W xs f = first-in (λ c. SheetRefusal c (suc k)) (rows t k last W xs) (wrongLetter, (tooMany, (wrongField, tt))) f
+rows-number t k last Z xs f = first-in (λ c. SheetRefusal c (suc k)) (rows t k last Z xs) (wrongLetter, (wrongField, (wrongCount, tt))) f
 
 tests-number : (t : Sheet) (k : ℕ) (last : Bool) (o : Option Line) {m : ℕ} → First m (tests t k last o) → SheetRefusal m (suc k)
 tests-number t k last none here = malformed
@@ -153,5 +153,5 @@ tests-number t k last (some l) f = rows-number t k last (l .letter) (l .fields) 
 
 pub cause-number : (n : ℕ) (s : List ℕ) {c place : ℕ} → Cause n s c place → SheetRefusal c place
 unfolding testsAt
-cause-number n s (size h) = length
+cause-number n s (size h) = wrongLength
 cause-number n s (line k h l p f) = tests-number (before n s k) k (eqb (suc k) (lineCount n s)) (lineAt n s k) f

@@ -1,0 +1,62 @@
+-- What the program writes, as a function of the bytes that it reads. Assumes nothing.
+use Prim.Native.Nat.{ℕ, suc}
+use Prim.Native.Char.{Char, code}
+use mathlib.Core.Bool.{Bool, cond}
+use mathlib.Core.List.{List, [], _∷_, _++_}
+use lib.Dec.{eqb}
+use lib.ListN.{length, take, replicate}
+use Rattle.scope.specs.Sheet.{Sheet, Number, plus, fieldsBytes, fieldCount}
+use Rattle.scope.specs.Reading.{Read, accepted, refused, mostBytes, read}
+use Rattle.scope.specs.Meaning.{bits, kept}
+use Rattle.scope.specs.Jobs.{Result, Answer, answer}
+use Rattle.scope.specs.Demands.{listed}
+
+-- a line of the sheet's shape: a letter and three numbers
+pub record Row : Type 0 where
+  pub letter : ℕ
+  pub fields : List Number
+
+abbrev pub row : Char → ℕ → ℕ → ℕ → Row
+row c x y z = record { letter = code c; fields = plus x ∷ plus y ∷ plus z ∷ [] }
+
+unfoldable pub rowsBytes : List Row → List ℕ
+rowsBytes [] = []
+rowsBytes (r ∷ rs) = r .letter ∷ fieldsBytes (r .fields) ++ rowsBytes rs
+
+abbrev pub one : Bool → ℕ
+one b = cond b 1 0
+
+-- a row for each, numbered from i
+unfoldable pub each : {A : Type 0} → (ℕ → A → Row) → ℕ → List A → List Row
+each f i [] = []
+each f i (a ∷ s) = f i a ∷ each f (suc i) s
+
+-- each switch on or off, each wish kept or broken
+abbrev pub planRows : Sheet → (plan : ℕ) → List Row
+planRows t plan = each (λ i on. row "S" i (one on) 0) 1 (bits (t .switches) plan) ++ each (λ i w. row "W" i (one (kept t plan w)) 0) 1 (t .wishes)
+
+-- only when the number is 0
+abbrev pub foundRows : Read → Result → List Row
+foundRows (accepted t) r = cond (eqb (r .number) 0) (planRows t (r .plan)) []
+foundRows (refused n place) r = []
+
+abbrev pub answerRows : Read → Answer → List Row
+answerRows o a = row "A" (a .result .number) (a .result .place) (a .result .cost) ∷ foundRows o (a .result) ++ each (λ i q. row "F" i q 0) 1 (listed a)
+
+-- Z counts the lines before it
+abbrev pub ended : List Row → List Row
+ended rs = rs ++ row "Z" (length rs) 0 0 ∷ []
+
+-- the length of the list that the program lends
+abbrev pub room : ℕ
+room = 4096
+
+-- up to one byte more than a sheet may have
+abbrev pub inputOf : List ℕ → List ℕ
+inputOf input = take (suc (mostBytes fieldCount)) input
+
+unfoldable pub outputRows : List ℕ → List Row
+outputRows s = ended (answerRows (read fieldCount s) (answer s (replicate room 0)))
+
+unfoldable pub output : List ℕ → List ℕ
+output input = rowsBytes (outputRows (inputOf input))

@@ -1,0 +1,284 @@
+-- The jobs keep demands 2 and 3. Assumes nothing.
+use Prim.Native.Nat.{ℕ, zero, suc, _≤_, _<_}
+use native.Mathlib.Decide.{decLe}
+use native.Mathlib.Omega.{arith}
+use mathlib.Core.Bool.{Bool, true, false}
+use mathlib.Core.List.{List, [], _∷_}
+use mathlib.Core.Logic.{_↔_, _≢_}
+use mathlib.Core.Option.{Option, none, some, Option·some-injective}
+use mathlib.Core.Path.{_≡_, refl, sym, ap, subst, _∙_}
+use lib.ListN.{length, getD, take, drop}
+use lib.Seq.{take-append-seam, take-all, length-take-le, getD-take}
+use borrow.Author.Tests.{lt-ltb, not-true, not-false}
+use Rattle.scope.specs.Sheet.{Sheet, fieldCount}
+use Rattle.scope.specs.Reading.{Read, accepted, refused, read}
+use Rattle.scope.specs.Meaning.{plans, patterns, passes, cost}
+use Rattle.scope.specs.Rule.{Verdict, plan, noPlan, noRoom, Run, run, verdictOf, passesAll, best, missed, short, rule, whole}
+use Rattle.scope.specs.Jobs.{task, Result, refusal, found, result, Answer, answered, over, answerOf, answer, firstHigh, shortOf, shortRun, rated, rating}
+use Rattle.scope.specs.Demands.{Sound, Passes, Best, list, Demand2, Same, listed, Misses, Pair, Demand3, ShortRun, Rates}
+use Rattle.scope.specs.laws.Tests.{clash}
+use Rattle.scope.specs.laws.Rules.{passes-at, passes-all, Candidate, best-iff, Missed, missed-iff, Ruled, ruled-take, settled, words-apart, words-below, length-patterns, length-plans, room, no-room, verdict-short, verdict-iff, Answers, Beginning, beginning}
+
+-- ---- results tell verdicts apart
+
+same-verdict : (t : Sheet) (v u : Verdict) (l m : ℕ) → Same (result t v l) (result t u m) → v ≡ u
+same-verdict t (plan p) (plan q) l m s = ap plan (s .plan)
+same-verdict t (plan p) noPlan l m s = absurd (omega (arith, s .number))
+same-verdict t (plan p) noRoom l m s = absurd (omega (arith, s .number))
+same-verdict t noPlan (plan q) l m s = absurd (omega (arith, s .number))
+same-verdict t noPlan noPlan l m s = refl
+same-verdict t noPlan noRoom l m s = absurd (omega (arith, s .number))
+same-verdict t noRoom (plan q) l m s = absurd (omega (arith, s .number))
+same-verdict t noRoom noPlan l m s = absurd (omega (arith, s .number))
+same-verdict t noRoom noRoom l m s = refl
+
+same-result : (t : Sheet) (v : Verdict) (l m : ℕ) → Same (result t v l) (result t v m)
+same-result t (plan p) l m = record { number = refl; plan = refl; cost = refl }
+same-result t noPlan l m = record { number = refl; plan = refl; cost = refl }
+same-result t noRoom l m = record { number = refl; plan = refl; cost = refl }
+
+result-length : (t : Sheet) (v : Verdict) (l : ℕ) → result t v l .length ≡ l
+result-length t (plan p) l = refl
+result-length t noPlan l = refl
+result-length t noRoom l = refl
+
+number-nine : (t : Sheet) (v : Verdict) (l : ℕ) → result t v l .number ≡ 9 → v ≡ noRoom
+number-nine t (plan p) l e = absurd (omega arith)
+number-nine t noPlan l e = absurd (omega arith)
+number-nine t noRoom l e = refl
+
+same-of : {r q : Result} → r ≡ q → Same r q
+same-of e = record { number = ap (λ r. r .number) e; plan = ap (λ r. r .plan) e; cost = ap (λ r. r .cost) e }
+
+-- ---- the short run over patterns of the sheet
+
+pub none-high : (bound i : ℕ) (l : List ℕ) → ((j : ℕ) → j < length l → getD l j 0 < bound) → firstHigh bound i l ≡ none
+none-high bound i [] h = refl
+none-high bound i (q ∷ l) h = rw (lt-ltb q bound (h 0 (omega arith))) (none-high bound (suc i) l (λ j g. h (suc j) (omega arith)))
+
+abbrev Below : Sheet → List ℕ → Type 0
+Below t l = (j : ℕ) → j < length l → getD l j 0 < patterns t
+
+below-take : (t : Sheet) (l : List ℕ) (j : ℕ) → j ≤ length l → Below t l → Below t (take j l)
+below-take t l j h b i g =
+    let d : i < j = omega (arith, length-take-le j l h) in
+    rw (getD-take j l i 0 d) (b i (omega arith))
+
+short-below : (t : Sheet) (l : List ℕ) → Below t l → shortOf (accepted t) l ≡ result t (short (task t) l) 0
+short-below t l b = rw (none-high (patterns t) 1 l b)
+
+-- ---- over a beginning of a list that the rule makes
+
+module _ (t : Sheet) where
+  misses : (r : Result) (p q : ℕ) → r ≡ found p (cost t p) 0 → Missed (task t) p (some q) → Misses t r q
+  misses r p q e m =
+      let f : r .plan ≡ p = ap (λ x. x .plan) e in
+      record {
+        ends = e ∙ ap (λ x. found x (cost t x) 0) (sym f);
+        fails = rw f (not-true (passes t p q) (m .good));
+        first = λ k h. rw f (earlier k h (passes t p k) refl);
+      }
+    where
+      earlier : (k : ℕ) → k < q → (b : Bool) → passes t p k ≡ b → b ≡ true
+      earlier k h true e = refl
+      earlier k h false e = absurd (omega (arith, m .ahead k (omega (arith, m .below)) (rw e) .first (omega arith)))
+
+  short-misses : (l : List ℕ) → Ruled (task t) l → (j : ℕ) → j < length l → Misses t (shortOf (accepted t) (take j l)) (getD l j 0)
+  short-misses l r j h =
+      let b : Beginning (task t) l j = beginning (task t) l r j h in
+      let e : shortOf (accepted t) (take j l) ≡ found (b .candidate) (cost t (b .candidate)) 0 = short-below t (take j l) (below-take t l j (omega arith) (words-below (task t) l r)) ∙ rw (b .ends) in
+      misses (shortOf (accepted t) (take j l)) (b .candidate) (getD l j 0) e (missed-iff (task t) (b .candidate) (some (getD l j 0)) .0 (b .missed-next))
+
+  whole-ruled : Ruled (task t) (list t)
+  whole-ruled = settled (task t) .ruled
+
+  -- ---- demand 3 for an accepted sheet
+  module _ (lent : List ℕ) where
+    abbrev full : Answer
+    full = answerOf (accepted t) lent
+
+    listed-words : listed full ≡ rule (task t) (length lent) [] .words
+    listed-words =
+        let r : Run = rule (task t) (length lent) [] in
+        rw (result-length t (r .verdict) (length (r .words))) (take-append-seam (r .words) (drop (length (r .words)) lent))
+
+    -- what is listed is as the rule makes it, and no longer than the list lent
+    pub listed-ruled : Ruled (task t) (listed full)
+    listed-ruled = rw listed-words (go (decLe (length (list t)) (length lent)))
+      where
+        go : Dec (length (list t) ≤ length lent) → Ruled (task t) (rule (task t) (length lent) [] .words)
+        go (yes h) = rw (room (task t) (length lent) h) whole-ruled
+        go (no n) = rw (no-room (task t) (length lent) (omega arith)) (ruled-take (task t) (list t) (length lent) (omega arith) whole-ruled)
+
+    pub listed-most : length (listed full) ≤ length lent
+    listed-most = rw listed-words (go (decLe (length (list t)) (length lent)))
+      where
+        go : Dec (length (list t) ≤ length lent) → length (rule (task t) (length lent) [] .words) ≤ length lent
+        go (yes h) = rw (room (task t) (length lent) h) h
+        go (no n) = rw (no-room (task t) (length lent) (omega arith)) (omega (arith, length-take-le (length lent) (list t) (omega arith)))
+
+    -- with room for the list
+    enough-pair : length (list t) ≤ length lent → Pair t lent (full .result) (listed full) (shortOf (accepted t))
+    enough-pair h =
+        let e : rule (task t) (length lent) [] ≡ whole (task t) = room (task t) (length lent) h in
+        let l : listed full ≡ list t = listed-words ∙ ap (λ r. r .words) e in
+        let nine : full .result .number ≢ 9 = λ n. verdict-iff (task t) noRoom .0 (number-nine t (whole (task t) .verdict) (length (list t)) (rw e at n)) in
+        rw l record {
+          whole = λ n. refl;
+          begun = λ n. absurd (nine n);
+          apart = words-apart (task t) (list t) whole-ruled;
+          few = (length-plans (task t) (list t) whole-ruled, length-patterns (task t) (list t) whole-ruled);
+          needed = short-misses (list t) whole-ruled;
+          unfinished = λ n. absurd (nine n);
+        }
+
+    -- with less
+    crowded-pair : length lent < length (list t) → Pair t lent (full .result) (listed full) (shortOf (accepted t))
+    crowded-pair h =
+        let l : List ℕ = take (length lent) (list t) in
+        let e : rule (task t) (length lent) [] ≡ run noRoom l = no-room (task t) (length lent) h in
+        let n : length l ≡ length lent = length-take-le (length lent) (list t) (omega arith) in
+        let r : Ruled (task t) l = ruled-take (task t) (list t) (length lent) (omega arith) whole-ruled in
+        let nine : full .result .number ≡ 9 = rw e in
+        subst (λ m. Pair t lent (full .result) m (shortOf (accepted t))) (sym (listed-words ∙ ap (λ r. r .words) e)) record {
+          whole = λ m. absurd (m nine);
+          begun = λ m. (refl, n);
+          apart = words-apart (task t) l r;
+          few = (length-plans (task t) l r, length-patterns (task t) l r);
+          needed = short-misses l r;
+          unfinished = λ m. rw n (h, short-misses (list t) whole-ruled (length lent) h);
+        }
+
+    pair : Pair t lent (full .result) (listed full) (shortOf (accepted t))
+    pair = go (decLe (length (list t)) (length lent))
+      where
+        go : Dec (length (list t) ≤ length lent) → Pair t lent (full .result) (listed full) (shortOf (accepted t))
+        go (yes h) = enough-pair h
+        go (no n) = crowded-pair (omega arith)
+
+    agrees : full .result .number ≢ 9 → Same (full .result) (shortOf (accepted t) (listed full))
+    agrees n = go (decLe (length (list t)) (length lent))
+      where
+        go : Dec (length (list t) ≤ length lent) → Same (full .result) (shortOf (accepted t) (listed full))
+        go (yes h) =
+            let e : rule (task t) (length lent) [] ≡ whole (task t) = room (task t) (length lent) h in
+            let s : shortOf (accepted t) (listed full) ≡ result t (whole (task t) .verdict) 0 =
+            ap (shortOf (accepted t)) (listed-words ∙ ap (λ r. r .words) e) ∙ short-below t (list t) (words-below (task t) (list t) whole-ruled) ∙ ap (λ v. result t v 0) (sym (verdict-short (task t))) in
+            subst (Same (full .result)) (sym s) (rw e (same-result t (whole (task t) .verdict) (length (list t)) 0))
+        go (no m) = absurd (n (ap (λ r. result t (r .verdict) (length (r .words)) .number) (no-room (task t) (length lent) (omega arith))))
+
+-- ---- demand 3, over every sheet and every lent list
+
+agrees-of : (r : Read) (lent : List ℕ) → answerOf r lent .result .number ≢ 9 → Same (answerOf r lent .result) (shortOf r (listed (answerOf r lent)))
+agrees-of (accepted t) lent n = agrees t lent n
+agrees-of (refused c place) lent n = record { number = refl; plan = refl; cost = refl }
+
+pub demand3 : (s lent : List ℕ) → Demand3 s lent
+unfolding answer shortRun
+demand3 s lent = record {
+  agrees = agrees-of (read fieldCount s) lent;
+  turned-down = λ c place e. rw e (refl, refl);
+  lists = λ t e. subst (λ r. Pair t lent (answerOf r lent .result) (listed (answerOf r lent)) (shortOf r)) (sym e) (pair t lent);
+}
+
+-- ---- demand 2
+
+best-answers : (t : Sheet) (p : ℕ) → Answers (task t) p ↔ Best t (Sound t) p
+best-answers t p = (
+  λ a. record { is-ok = record { plan = a .below; passes = a .sound }; cheapest = λ k s. a .ahead k (s .plan) (s .passes) .cheap; smallest = λ k s. a .ahead k (s .plan) (s .passes) .first },
+  λ b. record { below = b .is-ok .plan; sound = b .is-ok .passes; ahead = λ k h s. record { cheap = b .cheapest k (record { plan = h; passes = s }); first = b .smallest k (record { plan = h; passes = s }) } },
+)
+
+enough : (t : Sheet) (lent : List ℕ) → length (list t) ≤ length lent → Demand2 t lent (answered (result t (whole (task t) .verdict) (length (list t))) (over (list t) lent))
+enough t lent h = record {
+  plan = λ p. (λ e. (h, best-answers t p .0 (verdict-iff (task t) (plan p) .0 (is (plan p) e))), λ (g, b). rw (verdict-iff (task t) (plan p) .1 (best-answers t p .1 b)));
+  no-plan = (λ e. (h, λ p s. verdict-iff (task t) noPlan .0 (is noPlan e) p (s .plan) (s .passes)), λ (g, n). rw (verdict-iff (task t) noPlan .1 (λ k i s. n k (record { plan = i; passes = s }))));
+  no-room = (λ e. absurd (verdict-iff (task t) noRoom .0 (same-verdict t v noRoom L (length lent) (same-of e))), λ g. absurd (omega arith));
+  words = rw (take-all (length lent) (list t) h);
+}
+  where
+    v : Verdict
+    v = whole (task t) .verdict
+
+    L : ℕ
+    L = length (list t)
+
+    is : (u : Verdict) → result t v L ≡ result t u L → v ≡ u
+    is u e = same-verdict t v u L L (same-of e)
+
+crowded : (t : Sheet) (lent : List ℕ) → length lent < length (list t) → Demand2 t lent (answered (refusal 9 0 (length (take (length lent) (list t)))) (over (take (length lent) (list t)) lent))
+crowded t lent h = record {
+  plan = λ p. (λ e. absurd (omega (arith, same-of e .number)), λ (g, b). absurd (omega arith));
+  no-plan = (λ e. absurd (omega (arith, same-of e .number)), λ (g, b). absurd (omega arith));
+  no-room = (λ e. h, λ g. rw (length-take-le (length lent) (list t) (omega arith)));
+  words = refl;
+}
+
+pub demand2 : (s lent : List ℕ) (t : Sheet) → read fieldCount s ≡ accepted t → Demand2 t lent (answer s lent)
+unfolding answer
+demand2 s lent t e = rw e (go (decLe (length (list t)) (length lent)))
+  where
+    go : Dec (length (list t) ≤ length lent) → Demand2 t lent (answerOf (accepted t) lent)
+    go (yes h) = rw (room (task t) (length lent) h) (enough t lent h)
+    go (no n) = rw (no-room (task t) (length lent) (omega arith)) (crowded t lent (omega arith))
+
+-- ---- Short run
+
+module _ (t : Sheet) (l : List ℕ) where
+  passing : (p : ℕ) → p < plans t → passesAll (task t) p l ≡ true → Passes t l p
+  passing p h e = record { plan = h; passes = passes-at (task t) p l e }
+
+  best-passes : (p : ℕ) → Candidate (task t) l (some p) ↔ Best t (Passes t l) p
+  best-passes p = (
+    λ c. record { is-ok = passing p (c .below) (c .good); cheapest = λ k s. c .ahead k (s .plan) (passes-all (task t) k l (s .passes)) .cheap; smallest = λ k s. c .ahead k (s .plan) (passes-all (task t) k l (s .passes)) .first },
+    λ b. record { below = b .is-ok .plan; good = passes-all (task t) p l (b .is-ok .passes); ahead = λ k h e. record { cheap = b .cheapest k (passing k h e); first = b .smallest k (passing k h e) } },
+  )
+
+  none-passes : Candidate (task t) l none ↔ ((p : ℕ) → ¬ Passes t l p)
+  none-passes = (λ c p s. clash (passes-all (task t) p l (s .passes)) (c p (s .plan)), λ n k h. fails k (passesAll (task t) k l) refl (λ e. n k (passing k h e)))
+    where
+      fails : (k : ℕ) (b : Bool) → passesAll (task t) k l ≡ b → (passesAll (task t) k l ≡ true → ⊥) → b ≡ false
+      fails k true e f = absurd (f e)
+      fails k false e f = refl
+
+  short-right : (o : Option ℕ) → best (task t) l ≡ o → ShortRun t l (result t (verdictOf o) 0)
+  short-right none e = record {
+    plan = λ p. (λ f. absurd (omega (arith, same-of f .number)), λ b. absurd (none-passes .0 (best-iff (task t) l none .0 e) p (b .is-ok)));
+    no-plan = (λ f. none-passes .0 (best-iff (task t) l none .0 e), λ n. refl);
+  }
+  short-right (some q) e = record {
+    plan = λ p. (λ f. best-passes p .0 (best-iff (task t) l (some p) .0 (e ∙ ap some (same-of f .plan))), λ b. let g : q ≡ p = Option·some-injective q p (sym e ∙ best-iff (task t) l (some p) .1 (best-passes p .1 b)) in rw g);
+    no-plan = (λ f. absurd (omega (arith, same-of f .number)), λ n. absurd (n q (best-passes q .0 (best-iff (task t) l (some q) .0 e) .is-ok)));
+  }
+
+pub short-run : (s l : List ℕ) (t : Sheet) → read fieldCount s ≡ accepted t → ((i : ℕ) → i < length l → getD l i 0 < patterns t) → ShortRun t l (shortRun s l)
+unfolding shortRun short
+short-run s l t e h = rw (e, none-high (patterns t) 1 l h) (short-right t l (best (task t) l) refl)
+
+-- ---- Rating
+
+rates : (t : Sheet) (p : ℕ) → p < plans t → (o : Option ℕ) → missed (task t) p ≡ o → Rates t p (rated (cost t p) o)
+rates t p h none e = record {
+  number = refl;
+  place = refl;
+  cost = refl;
+  sound = (λ f. record { plan = h; passes = λ q g. not-false (passes t p q) (missed-iff (task t) p none .0 e q g) }, λ s. refl);
+  pattern = λ f. clash refl f;
+  smallest = λ q g. absurd (omega arith);
+  zero = λ f. refl;
+}
+rates t p h (some q) e =
+    let m : Missed (task t) p (some q) = missed-iff (task t) p (some q) .0 e in
+    record {
+      number = refl;
+      place = refl;
+      cost = refl;
+      sound = (λ f. clash f refl, λ s. clash (s .passes q (m .below)) (not-true (passes t p q) (m .good)));
+      pattern = λ f. (m .below, not-true (passes t p q) (m .good));
+      smallest = misses t (found p (cost t p) 0) p q refl m .first;
+      zero = λ f. clash f refl;
+    }
+
+pub rating-right : (s : List ℕ) (p : ℕ) (t : Sheet) → read fieldCount s ≡ accepted t → p < plans t → Rates t p (rating s p)
+unfolding rating
+rating-right s p t e h = rw (e, lt-ltb p (plans t) h) (rates t p h (missed (task t) p) refl)

@@ -1,0 +1,149 @@
+-- Every figure that the program prints fits its five columns. Assumes nothing.
+use Prim.Native.Nat.{ℕ, suc, _+_, _%_, _≤_, _<_}
+use Prim.Native.Char.{Char}
+use native.Mathlib.Nat.{pow-le-pow-right}
+use native.Mathlib.Omega.{arith}
+use mathlib.Core.Bool.{Bool, true, false, cond, _&&_}
+use mathlib.Core.List.{List, [], _∷_, _++_}
+use mathlib.Core.Path.{_≡_, refl, ap}
+use lib.Dec.{eqb, leb, ltb}
+use lib.ListN.{length, getD, replicate, length-append}
+use borrow.Author.Tests.{leb-true}
+use Rattle.scope.specs.Sheet.{Sheet, fieldCount, mostSwitches, mostWishes, All, Valid}
+use Rattle.scope.specs.Reading.{Read, accepted, refused, lineSize, mostBytes, lengthOk, lineCount, read}
+use Rattle.scope.specs.Causes.{Cause, size, line, SheetRefusal, wrongLength, malformed, wrongLetter, outOfRange, tooMany, wrongField, wrongCount}
+use Rattle.scope.specs.Meaning.{bits, patterns, kept, cost}
+use Rattle.scope.specs.Rule.{Verdict, plan, noPlan, noRoom, rule}
+use Rattle.scope.specs.Jobs.{task, Result, result, Answer, answerOf, answer}
+use Rattle.scope.specs.Demands.{listed}
+use Rattle.scope.specs.Program.{Row, row, one, each, planRows, foundRows, answerRows, ended, room, outputRows}
+use Rattle.scope.specs.laws.Tests.{both}
+use Rattle.scope.specs.laws.Lines.{Fit}
+use Rattle.scope.specs.laws.Refusals.{refused-iff, cause-number}
+use Rattle.scope.specs.laws.Inverse.{read-iff, plus-fits, all-append}
+use Rattle.scope.specs.laws.Points.{length-bits}
+use Rattle.scope.specs.laws.Wishes.{cost-small}
+use Rattle.scope.specs.laws.Rules.{words-below, length-patterns}
+use Rattle.scope.specs.laws.Demands.{listed-ruled}
+
+-- the largest number of five columns
+abbrev top : ℕ
+top = 99999
+
+abbrev pub Fits : Row → Type 0
+Fits r = Fit (r .fields)
+
+row-fits : (c : Char) (x y z : ℕ) → x ≤ top → y ≤ top → z ≤ top → Fits (row c x y z)
+row-fits c x y z p q r = (plus-fits x p, (plus-fits y q, (plus-fits z r, tt)))
+
+length-each : {A : Type 0} (f : ℕ → A → Row) (i : ℕ) (s : List A) → length (each f i s) ≡ length s
+unfolding each
+length-each f i [] = refl
+length-each f i (a ∷ s) = ap suc (length-each f (suc i) s)
+
+-- a row for each element fits if the row of each fits at its number
+each-fits : {A : Type 0} (P : A → Type 0) (f : ℕ → A → Row) → ((i : ℕ) (a : A) → i ≤ top → P a → Fits (f i a)) → (i : ℕ) (s : List A) → i + length s ≤ suc top → All P s → All Fits (each f i s)
+unfolding each
+each-fits P f h i [] l p = tt
+each-fits P f h i (a ∷ s) l (p, q) = (h i a (omega arith) p, each-fits P f h (suc i) s (omega arith) q)
+
+all-true : {A : Type 0} (s : List A) → All (λ a. Unit {0}) s
+all-true [] = tt
+all-true (a ∷ s) = (tt, all-true s)
+
+all-getD : (P : ℕ → Type 0) (s : List ℕ) → ((i : ℕ) → i < length s → P (getD s i 0)) → All P s
+all-getD P [] h = tt
+all-getD P (a ∷ s) h = (h 0 (omega arith), all-getD P s (λ i g. h (suc i) (omega arith)))
+
+one-small : (b : Bool) → one b ≤ top
+one-small true = omega arith
+one-small false = omega arith
+
+-- ---- an accepted sheet
+module _ (t : Sheet) (v : Valid t) where
+  most-patterns : patterns t ≤ 65536
+  most-patterns = pow-le-pow-right {n = 2} (omega arith) (v .faults)
+
+  plan-fits : (p : ℕ) → All Fits (planRows t p)
+  plan-fits p = all-append Fits (each (λ i on. row "S" i (one on) 0) 1 (bits (t .switches) p)) (each (λ i w. row "W" i (one (kept t p w)) 0) 1 (t .wishes))
+      (each-fits (λ on. Unit {0}) (λ i on. row "S" i (one on) 0) (λ i on h u. row-fits "S" i (one on) 0 h (one-small on) (omega arith)) 1 (bits (t .switches) p) (omega (arith, length-bits (t .switches) p, v .switches)) (all-true (bits (t .switches) p)))
+      (each-fits (λ w. Unit {0}) (λ i w. row "W" i (one (kept t p w)) 0) (λ i w h u. row-fits "W" i (one (kept t p w)) 0 h (one-small (kept t p w)) (omega arith)) 1 (t .wishes) (omega (arith, v .few-wishes)) (all-true (t .wishes)))
+
+  length-plan : (p : ℕ) → length (planRows t p) ≤ mostSwitches + mostWishes
+  length-plan p =
+      let s : List Row = each (λ i on. row "S" i (one on) 0) 1 (bits (t .switches) p) in
+      let w : List Row = each (λ i w. row "W" i (one (kept t p w)) 0) 1 (t .wishes) in
+      omega (arith, length-append s w, length-each (λ i on. row "S" i (one on) 0) 1 (bits (t .switches) p), length-each (λ i w. row "W" i (one (kept t p w)) 0) 1 (t .wishes), length-bits (t .switches) p, v .switches, v .few-wishes)
+
+  -- after a verdict
+  record Small (r : Result) : Type 0 where
+    number : r .number ≤ top
+    place : r .place ≤ top
+    cost : r .cost ≤ top
+
+  result-small : (u : Verdict) (l : ℕ) → Small (result t u l)
+  result-small (plan p) l = record { number = omega arith; place = omega arith; cost = omega (arith, cost-small t v p) }
+  result-small noPlan l = record { number = omega arith; place = omega arith; cost = omega arith }
+  result-small noRoom l = record { number = omega arith; place = omega arith; cost = omega arith }
+
+  found-fits : (r : Result) → All Fits (foundRows (accepted t) r)
+  found-fits r = go (eqb (r .number) 0)
+    where
+      go : (b : Bool) → All Fits (cond b (planRows t (r .plan)) [])
+      go true = plan-fits (r .plan)
+      go false = tt
+
+  length-found : (r : Result) → length (foundRows (accepted t) r) ≤ mostSwitches + mostWishes
+  length-found r = go (eqb (r .number) 0)
+    where
+      go : (b : Bool) → length (cond b (planRows t (r .plan)) []) ≤ mostSwitches + mostWishes
+      go true = length-plan (r .plan)
+      go false = omega arith
+
+  answer-fits : (lent : List ℕ) → All Fits (ended (answerRows (accepted t) (answerOf (accepted t) lent)))
+  answer-fits lent =
+      let a : Answer = answerOf (accepted t) lent in
+      let r : Result = a .result in
+      let m : Small r = result-small (rule (task t) (length lent) [] .verdict) (length (rule (task t) (length lent) [] .words)) in
+      let found : List Row = foundRows (accepted t) r in
+      let words : List Row = each (λ i q. row "F" i q 0) 1 (listed a) in
+      let few : length (listed a) ≤ patterns t = length-patterns (task t) (listed a) (listed-ruled t lent) in
+      let count : length (row "A" (r .number) (r .place) (r .cost) ∷ found ++ words) ≤ top = omega (arith, length-append found words, length-found r, length-each (λ i q. row "F" i q 0) 1 (listed a), most-patterns) in
+      all-append Fits (row "A" (r .number) (r .place) (r .cost) ∷ found ++ words) (row "Z" (length (row "A" (r .number) (r .place) (r .cost) ∷ found ++ words)) 0 0 ∷ []) (
+        row-fits "A" (r .number) (r .place) (r .cost) (m .number) (m .place) (m .cost),
+        all-append Fits found words (found-fits r)
+            (each-fits (λ q. q ≤ top) (λ i q. row "F" i q 0) (λ i q h g. row-fits "F" i q 0 h g (omega arith)) 1 (listed a) (omega (arith, most-patterns))
+            (all-getD (λ q. q ≤ top) (listed a) (λ i h. omega (arith, words-below (task t) (listed a) (listed-ruled t lent) i h, most-patterns)))),
+      )
+      (row-fits "Z" (length (row "A" (r .number) (r .place) (r .cost) ∷ found ++ words)) 0 0 count (omega arith) (omega arith), tt)
+
+-- ---- a refused one
+
+few-lines : (s : List ℕ) → lengthOk fieldCount (length s) ≡ true → lineCount fieldCount s ≤ 530
+few-lines s e =
+    let (a, r) = both (ltb 0 (length s)) (leb (length s) (mostBytes fieldCount) && eqb (length s % lineSize fieldCount) 0) e in
+    let (b, d) = both (leb (length s) (mostBytes fieldCount)) (eqb (length s % lineSize fieldCount) 0) r in
+    omega (arith, leb-true (length s) (mostBytes fieldCount) b)
+
+cause-small : (s : List ℕ) {c place : ℕ} → Cause fieldCount s c place → place ≤ 530
+cause-small s (size h) = omega arith
+cause-small s (line k h l p f) = omega (arith, few-lines s h)
+
+number-small : {c place : ℕ} → SheetRefusal c place → c ≤ 7
+number-small wrongLength = omega arith
+number-small malformed = omega arith
+number-small wrongLetter = omega arith
+number-small outOfRange = omega arith
+number-small tooMany = omega arith
+number-small wrongField = omega arith
+number-small wrongCount = omega arith
+
+pub output-fits : (s : List ℕ) → All Fits (outputRows s)
+unfolding outputRows answer each
+output-fits s = go (read fieldCount s) refl
+  where
+    go : (o : Read) → read fieldCount s ≡ o → All Fits (ended (answerRows o (answerOf o (replicate room 0))))
+    go (accepted t) e = answer-fits t (read-iff fieldCount (omega arith) s t .0 e .1) (replicate room 0)
+    go (refused c place) e =
+        let h : Cause fieldCount s c place = refused-iff fieldCount s c place .0 e in
+        (row-fits "A" c place 0 (omega (arith, number-small (cause-number fieldCount s h))) (omega (arith, cause-small s h)) (omega arith), (row-fits "Z" 1 0 0 (omega arith) (omega arith) (omega arith), tt))
