@@ -5,7 +5,7 @@ use mathlib.Core.Bool.{Bool, cond}
 use mathlib.Core.List.{List, [], _∷_, _++_}
 use lib.Dec.{eqb}
 use lib.ListN.{length, take, replicate}
-use Rattle.scope.specs.Sheet.{Sheet, Number, plus, fieldsBytes, fieldCount}
+use Rattle.scope.specs.Sheet.{Clause, Sheet, Number, plus, fieldsBytes, fieldCount}
 use Rattle.scope.specs.Reading.{Read, accepted, refused, mostBytes, read}
 use Rattle.scope.specs.Meaning.{bits, kept}
 use Rattle.scope.specs.Jobs.{Result, Answer, answer}
@@ -31,9 +31,18 @@ unfoldable pub each : {A : Type 0} → (ℕ → A → Row) → ℕ → List A �
 each f i [] = []
 each f i (a ∷ s) = f i a ∷ each f (suc i) s
 
--- each switch on or off, each wish kept or broken
+-- switch i, on or off; wish i, kept or broken; the pattern at position i of the list
+abbrev pub switchRow : ℕ → Bool → Row
+switchRow i on = row "S" i (one on) 0
+
+abbrev pub wishRow : Sheet → (plan : ℕ) → ℕ → Clause → Row
+wishRow t plan i w = row "W" i (one (kept t plan w)) 0
+
+abbrev pub patternRow : ℕ → ℕ → Row
+patternRow i q = row "F" i q 0
+
 abbrev pub planRows : Sheet → (plan : ℕ) → List Row
-planRows t plan = each (λ i on. row "S" i (one on) 0) 1 (bits (t .switches) plan) ++ each (λ i w. row "W" i (one (kept t plan w)) 0) 1 (t .wishes)
+planRows t plan = each switchRow 1 (bits (t .switches) plan) ++ each (wishRow t plan) 1 (t .wishes)
 
 -- only when the number is 0
 abbrev pub foundRows : Read → Result → List Row
@@ -41,7 +50,7 @@ foundRows (accepted t) r = cond (eqb (r .number) 0) (planRows t (r .plan)) []
 foundRows (refused n place) r = []
 
 abbrev pub answerRows : Read → Answer → List Row
-answerRows o a = row "A" (a .result .number) (a .result .place) (a .result .cost) ∷ foundRows o (a .result) ++ each (λ i q. row "F" i q 0) 1 (listed a)
+answerRows o a = row "A" (a .result .number) (a .result .place) (a .result .cost) ∷ foundRows o (a .result) ++ each patternRow 1 (listed a)
 
 -- Z counts the lines before it
 abbrev pub ended : List Row → List Row

@@ -16,7 +16,7 @@ use Rattle.scope.specs.Meaning.{bits, patterns, kept, cost}
 use Rattle.scope.specs.Rule.{Verdict, plan, noPlan, noRoom, rule}
 use Rattle.scope.specs.Jobs.{task, Result, result, Answer, answerOf, answer}
 use Rattle.scope.specs.Demands.{listed}
-use Rattle.scope.specs.Program.{Row, row, one, each, planRows, foundRows, answerRows, ended, room, outputRows}
+use Rattle.scope.specs.Program.{Row, row, one, each, switchRow, wishRow, patternRow, planRows, foundRows, answerRows, ended, room, outputRows}
 use Rattle.scope.specs.laws.Tests.{both}
 use Rattle.scope.specs.laws.Lines.{Fit}
 use Rattle.scope.specs.laws.Refusals.{refused-iff, cause-number}
@@ -65,15 +65,15 @@ module _ (t : Sheet) (v : Valid t) where
   most-patterns = pow-le-pow-right {n = 2} (omega arith) (v .faults)
 
   plan-fits : (p : ℕ) → All Fits (planRows t p)
-  plan-fits p = all-append Fits (each (λ i on. row "S" i (one on) 0) 1 (bits (t .switches) p)) (each (λ i w. row "W" i (one (kept t p w)) 0) 1 (t .wishes))
-      (each-fits (λ on. Unit {0}) (λ i on. row "S" i (one on) 0) (λ i on h u. row-fits "S" i (one on) 0 h (one-small on) (omega arith)) 1 (bits (t .switches) p) (omega (arith, length-bits (t .switches) p, v .switches)) (all-true (bits (t .switches) p)))
-      (each-fits (λ w. Unit {0}) (λ i w. row "W" i (one (kept t p w)) 0) (λ i w h u. row-fits "W" i (one (kept t p w)) 0 h (one-small (kept t p w)) (omega arith)) 1 (t .wishes) (omega (arith, v .few-wishes)) (all-true (t .wishes)))
+  plan-fits p = all-append Fits (each switchRow 1 (bits (t .switches) p)) (each (wishRow t p) 1 (t .wishes))
+      (each-fits (λ on. Unit {0}) switchRow (λ i on h u. row-fits "S" i (one on) 0 h (one-small on) (omega arith)) 1 (bits (t .switches) p) (omega (arith, length-bits (t .switches) p, v .switches)) (all-true (bits (t .switches) p)))
+      (each-fits (λ w. Unit {0}) (wishRow t p) (λ i w h u. row-fits "W" i (one (kept t p w)) 0 h (one-small (kept t p w)) (omega arith)) 1 (t .wishes) (omega (arith, v .few-wishes)) (all-true (t .wishes)))
 
   length-plan : (p : ℕ) → length (planRows t p) ≤ mostSwitches + mostWishes
   length-plan p =
-      let s : List Row = each (λ i on. row "S" i (one on) 0) 1 (bits (t .switches) p) in
-      let w : List Row = each (λ i w. row "W" i (one (kept t p w)) 0) 1 (t .wishes) in
-      omega (arith, length-append s w, length-each (λ i on. row "S" i (one on) 0) 1 (bits (t .switches) p), length-each (λ i w. row "W" i (one (kept t p w)) 0) 1 (t .wishes), length-bits (t .switches) p, v .switches, v .few-wishes)
+      let s : List Row = each switchRow 1 (bits (t .switches) p) in
+      let w : List Row = each (wishRow t p) 1 (t .wishes) in
+      omega (arith, length-append s w, length-each switchRow 1 (bits (t .switches) p), length-each (wishRow t p) 1 (t .wishes), length-bits (t .switches) p, v .switches, v .few-wishes)
 
   -- after a verdict
   record Small (r : Result) : Type 0 where
@@ -106,13 +106,13 @@ module _ (t : Sheet) (v : Valid t) where
       let r : Result = a .result in
       let m : Small r = result-small (rule (task t) (length lent) [] .verdict) (length (rule (task t) (length lent) [] .words)) in
       let found : List Row = foundRows (accepted t) r in
-      let words : List Row = each (λ i q. row "F" i q 0) 1 (listed a) in
+      let words : List Row = each patternRow 1 (listed a) in
       let few : length (listed a) ≤ patterns t = length-patterns (task t) (listed a) (listed-ruled t lent) in
-      let count : length (row "A" (r .number) (r .place) (r .cost) ∷ found ++ words) ≤ top = omega (arith, length-append found words, length-found r, length-each (λ i q. row "F" i q 0) 1 (listed a), most-patterns) in
+      let count : length (row "A" (r .number) (r .place) (r .cost) ∷ found ++ words) ≤ top = omega (arith, length-append found words, length-found r, length-each patternRow 1 (listed a), most-patterns) in
       all-append Fits (row "A" (r .number) (r .place) (r .cost) ∷ found ++ words) (row "Z" (length (row "A" (r .number) (r .place) (r .cost) ∷ found ++ words)) 0 0 ∷ []) (
         row-fits "A" (r .number) (r .place) (r .cost) (m .number) (m .place) (m .cost),
         all-append Fits found words (found-fits r)
-            (each-fits (λ q. q ≤ top) (λ i q. row "F" i q 0) (λ i q h g. row-fits "F" i q 0 h g (omega arith)) 1 (listed a) (omega (arith, most-patterns))
+            (each-fits (λ q. q ≤ top) patternRow (λ i q h g. row-fits "F" i q 0 h g (omega arith)) 1 (listed a) (omega (arith, most-patterns))
             (all-getD (λ q. q ≤ top) (listed a) (λ i h. omega (arith, words-below (task t) (listed a) (listed-ruled t lent) i h, most-patterns)))),
       )
       (row-fits "Z" (length (row "A" (r .number) (r .place) (r .cost) ∷ found ++ words)) 0 0 count (omega arith) (omega arith), tt)
