@@ -1,0 +1,3 @@
+-- what is proved of the definitions
+pub mod Columns
+pub mod Points

@@ -1,0 +1,90 @@
+-- The truth of the points of lent columns, as the code goes through them. Assumes nothing.
+use Prim.Native.Nat.{ℕ, suc, _+_, _-_, _/_, _%_, _^_, _≤_, _<_}
+use Prim.Native.Char.{code}
+use native.Mathlib.Omega.{arith}
+use mathlib.Core.Bool.{Bool, true, false, cond, not}
+use mathlib.Core.List.{List, []}
+use mathlib.Core.Logic.{_≢_}
+use mathlib.Core.Path.{_≡_, refl, sym, ap, ap₂, subst, _∙_}
+use lib.Dec.{eqb}
+use lib.ListN.{length, getD}
+use borrow.Author.Tests.{eq-eqb, ne-eqb}
+use Rattle.scope.specs.Sheet.{Gate, Among, Names}
+use Rattle.scope.specs.Meaning.{gateTruth, switchOn, truth}
+use Rattle.scope.specs.laws.Tests.{clash}
+use Rattle.scope.specs.laws.Points.{bits-at, truth-switch, truth-fault, truth-gate}
+use Rattle.circuit.specs.Lent.{gateOf, gatesOf, circuit, Fit}
+use Rattle.circuit.specs.Steps.{decidesOf}
+use Rattle.circuit.specs.laws.Columns.{length-gates, gate-at, ordered-at, names-left, names-right}
+
+-- ---- a gate of kind k, by the truth x of its first point and y of its second
+module _ (v : ℕ → Bool) (k p q : ℕ) where
+  gate-not : (x : Bool) → k ≡ code "N" → x ≡ v p → not x ≡ gateTruth v (gateOf k p q)
+  unfolding gateOf
+  gate-not x e h = rw (e, h)
+
+  gate-first : (x : Bool) → k ≢ code "N" → decidesOf k x ≡ true → x ≡ v p → x ≡ gateTruth v (gateOf k p q)
+  unfolding gateOf decidesOf
+  gate-first x n d h = rw (ne-eqb k (code "N") n) (go (eqb k (code "A")) x d h)
+    where
+      go : (t x : Bool) → cond t (not x) x ≡ true → x ≡ v p → x ≡ gateTruth v (cond t (Gate.and p q) (Gate.or p q))
+      go true true d h = clash d refl
+      go true false d h = rw (sym h)
+      go false true d h = rw (sym h)
+      go false false d h = clash d refl
+
+  gate-second : (x y : Bool) → k ≢ code "N" → decidesOf k x ≡ false → x ≡ v p → y ≡ v q → y ≡ gateTruth v (gateOf k p q)
+  unfolding gateOf decidesOf
+  gate-second x y n d h g = rw (ne-eqb k (code "N") n) (go (eqb k (code "A")) x d h)
+    where
+      go : (t x : Bool) → cond t (not x) x ≡ false → x ≡ v p → y ≡ gateTruth v (cond t (Gate.and p q) (Gate.or p q))
+      go true true d h = rw (sym h) g
+      go true false d h = clash refl d
+      go false true d h = clash refl d
+      go false false d h = rw (sym h) g
+
+module _ (a f : ℕ) (kind left right : List ℕ) (h : Fit a f kind left right) (plan pattern : ℕ) where
+  abbrev at : ℕ → Bool
+  at = truth (circuit a f kind left right []) plan pattern
+
+  -- ---- switches and faults are digits
+  pub at-switch : (p : ℕ) → Among a p → eqb (plan / 2 ^ (a - p) % 2) 1 ≡ at p
+  unfolding switchOn
+  at-switch p m = sym (truth-switch (circuit a f kind left right []) plan pattern p m ∙ bits-at a plan p m)
+
+  pub at-fault : (p : ℕ) → a < p → p ≤ a + f → eqb (pattern / 2 ^ (a + f - p) % 2) 1 ≡ at p
+  at-fault p l m =
+      let q : ℕ = p - a in
+      let e : a + q ≡ p = omega arith in
+      let d : f - q ≡ a + f - p = omega arith in
+      let u : Among f q = (omega arith, omega arith) in
+      sym (ap at (sym e) ∙ truth-fault (circuit a f kind left right []) plan pattern q u ∙ bits-at f pattern q u ∙ ap (λ n. eqb (pattern / 2 ^ n % 2) 1) d)
+
+  -- ---- point p is gate i, counted from 0
+  module _ (p i : ℕ) (e : i ≡ p - (a + f) - 1) (l : a + f < p) (m : p ≤ a + f + length kind) where
+    names : Names (p - 1) (gateOf (getD kind i 0) (getD left i 0) (getD right i 0))
+    names =
+        let n : a + f + i ≡ p - 1 = omega arith in
+        let u : i < length (gatesOf kind left right) = omega (arith, length-gates kind left right (h .lefts) (h .rights)) in
+        rw (← gate-at kind left right (Gate.not 0) i (omega arith) (omega arith) (omega arith), ← n) (ordered-at (a + f) (gatesOf kind left right) (Gate.not 0) i (h .gates) u)
+
+    pub left-before : Among (p - 1) (getD left i 0)
+    left-before = names-left (p - 1) (getD kind i 0) (getD left i 0) (getD right i 0) names
+
+    pub right-before : getD kind i 0 ≢ code "N" → Among (p - 1) (getD right i 0)
+    right-before n = names-right (p - 1) (getD kind i 0) (getD left i 0) (getD right i 0) n names
+
+    at-gate : gateTruth at (gateOf (getD kind i 0) (getD left i 0) (getD right i 0)) ≡ at p
+    at-gate =
+        let n : a + f + suc i ≡ p = omega arith in
+        let u : i < length (gatesOf kind left right) = omega (arith, length-gates kind left right (h .lefts) (h .rights)) in
+        sym (ap at (sym n) ∙ truth-gate (circuit a f kind left right []) plan pattern (h .gates) (Gate.not 0) i u ∙ ap (gateTruth at) (gate-at kind left right (Gate.not 0) i (omega arith) (omega arith) (omega arith)))
+
+    pub at-not : (x : Bool) → getD kind i 0 ≡ code "N" → x ≡ at (getD left i 0) → not x ≡ at p
+    at-not x k d = gate-not at (getD kind i 0) (getD left i 0) (getD right i 0) x k d ∙ at-gate
+
+    pub at-first : (x : Bool) → getD kind i 0 ≢ code "N" → decidesOf (getD kind i 0) x ≡ true → x ≡ at (getD left i 0) → x ≡ at p
+    at-first x k d u = gate-first at (getD kind i 0) (getD left i 0) (getD right i 0) x k d u ∙ at-gate
+
+    pub at-second : (x y : Bool) → getD kind i 0 ≢ code "N" → decidesOf (getD kind i 0) x ≡ false → x ≡ at (getD left i 0) → y ≡ at (getD right i 0) → y ≡ at p
+    at-second x y k d u w = gate-second at (getD kind i 0) (getD left i 0) (getD right i 0) x y k d u w ∙ at-gate
