@@ -36,7 +36,40 @@ fn decides(k: u8, x: bool) -> bool
 }
 
 // The truth of a point: a digit of the plan or the pattern, or by recursion over the gates, where
-// the second point of a gate is looked at only if the first does not decide.
+// the second point of a gate is looked at only if the first does not decide. The slices are behind
+// references, so that a call passes one word for each.
+fn truth_at(
+    kind: &&[u8],
+    left: &&[u32],
+    right: &&[u32],
+    a: u32,
+    f: u32,
+    plan: Plan,
+    pattern: Pattern,
+    point: u32,
+) -> bool
+    requires { ⌜ Fit a f (now (now kind)) (now (now left)) (now (now right)) × Among (a + f + length (now (now kind))) point ⌝ }
+    ensures { λ r. ⌜ r ≡ meaning.truth (circuit a f (now (now (kind .entry))) (now (now (left .entry))) (now (now (right .entry))) []) (plan .0) (pattern .0) point ⌝ }
+{
+    if point <= a {
+        return bit(plan.0, a - point);
+    }
+    let inputs = a + f;
+    if point <= inputs {
+        return bit(pattern.0, inputs - point);
+    }
+    let i = wide(point - inputs - 1);
+    let k = kind[i];
+    if k == NOT {
+        return !truth_at(kind, left, right, a, f, plan, pattern, left[i]);
+    }
+    let x = truth_at(kind, left, right, a, f, plan, pattern, left[i]);
+    if decides(k, x) {
+        return x;
+    }
+    truth_at(kind, left, right, a, f, plan, pattern, right[i])
+}
+
 pub fn truth(
     kind: &[u8],
     left: &[u32],
@@ -50,21 +83,5 @@ pub fn truth(
     requires { ⌜ Fit a f (now kind) (now left) (now right) × Among (a + f + length (now kind)) point ⌝ }
     ensures { λ r. ⌜ r ≡ meaning.truth (circuit a f (now (kind .entry)) (now (left .entry)) (now (right .entry)) []) (plan .0) (pattern .0) point ⌝ }
 {
-    if point <= a {
-        return bit(plan.0, a - point);
-    }
-    let inputs = a + f;
-    if point <= inputs {
-        return bit(pattern.0, inputs - point);
-    }
-    let i = wide(point - inputs - 1);
-    let k = kind[i];
-    let x = truth(kind, left, right, a, f, plan, pattern, left[i]);
-    if k == NOT {
-        return !x;
-    }
-    if decides(k, x) {
-        return x;
-    }
-    truth(kind, left, right, a, f, plan, pattern, right[i])
+    truth_at(&kind, &left, &right, a, f, plan, pattern, point)
 }

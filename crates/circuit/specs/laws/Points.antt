@@ -5,11 +5,11 @@ use native.Mathlib.Omega.{arith}
 use mathlib.Core.Bool.{Bool, true, false, cond, not}
 use mathlib.Core.List.{List, []}
 use mathlib.Core.Logic.{_≢_}
-use mathlib.Core.Path.{_≡_, refl, sym, ap, ap₂, subst, _∙_}
+use mathlib.Core.Path.{_≡_, refl, sym, ap, _∙_}
 use lib.Dec.{eqb}
 use lib.ListN.{length, getD}
-use borrow.Author.Tests.{eq-eqb, ne-eqb}
-use Rattle.scope.specs.Sheet.{Gate, Among, Names}
+use borrow.Author.Tests.{ne-eqb}
+use Rattle.scope.specs.Sheet.{Gate, Sheet, Among, Names}
 use Rattle.scope.specs.Meaning.{gateTruth, switchOn, truth}
 use Rattle.scope.specs.laws.Tests.{clash}
 use Rattle.scope.specs.laws.Points.{bits-at, truth-switch, truth-fault, truth-gate}
@@ -43,30 +43,28 @@ module _ (v : ℕ → Bool) (k p q : ℕ) where
       go false true d h = clash refl d
       go false false d h = rw (sym h) g
 
-module _ (a f : ℕ) (kind left right : List ℕ) (h : Fit a f kind left right) (plan pattern : ℕ) where
-  abbrev at : ℕ → Bool
-  at = truth (circuit a f kind left right []) plan pattern
+-- point p is gate i of n, counted from 0, after a switches and f faults
+pub record IsGate (a f n p i : ℕ) : Type 0 where
+  pub number : i ≡ p - (a + f) - 1
+  pub after : a + f < p
+  pub last : p ≤ a + f + n
 
-  -- ---- switches and faults are digits
-  pub at-switch : (p : ℕ) → Among a p → eqb (plan / 2 ^ (a - p) % 2) 1 ≡ at p
-  unfolding switchOn
-  at-switch p m = sym (truth-switch (circuit a f kind left right []) plan pattern p m ∙ bits-at a plan p m)
+module _ {a f : ℕ} {kind left right : List ℕ} (h : Fit a f kind left right) where
+  abbrev gate : ℕ → Gate
+  gate i = gateOf (getD kind i 0) (getD left i 0) (getD right i 0)
 
-  pub at-fault : (p : ℕ) → a < p → p ≤ a + f → eqb (pattern / 2 ^ (a + f - p) % 2) 1 ≡ at p
-  at-fault p l m =
-      let q : ℕ = p - a in
-      let e : a + q ≡ p = omega arith in
-      let d : f - q ≡ a + f - p = omega arith in
-      let u : Among f q = (omega arith, omega arith) in
-      sym (ap at (sym e) ∙ truth-fault (circuit a f kind left right []) plan pattern q u ∙ bits-at f pattern q u ∙ ap (λ n. eqb (pattern / 2 ^ n % 2) 1) d)
+  -- ---- a gate names points before its own
+  module _ {p i : ℕ} (g : IsGate a f (length kind) p i) where
+    listed : i < length (gatesOf kind left right)
+    listed = omega (arith, length-gates kind left right (h .lefts) (h .rights))
 
-  -- ---- point p is gate i, counted from 0
-  module _ (p i : ℕ) (e : i ≡ p - (a + f) - 1) (l : a + f < p) (m : p ≤ a + f + length kind) where
-    names : Names (p - 1) (gateOf (getD kind i 0) (getD left i 0) (getD right i 0))
+    as-gate : getD (gatesOf kind left right) i (Gate.not 0) ≡ gate i
+    as-gate = gate-at kind left right (Gate.not 0) i (omega arith) (omega arith) (omega arith)
+
+    names : Names (p - 1) (gate i)
     names =
         let n : a + f + i ≡ p - 1 = omega arith in
-        let u : i < length (gatesOf kind left right) = omega (arith, length-gates kind left right (h .lefts) (h .rights)) in
-        rw (← gate-at kind left right (Gate.not 0) i (omega arith) (omega arith) (omega arith), ← n) (ordered-at (a + f) (gatesOf kind left right) (Gate.not 0) i (h .gates) u)
+        rw (← as-gate, ← n) (ordered-at (a + f) (gatesOf kind left right) (Gate.not 0) i (h .gates) listed)
 
     pub left-before : Among (p - 1) (getD left i 0)
     left-before = names-left (p - 1) (getD kind i 0) (getD left i 0) (getD right i 0) names
@@ -74,17 +72,38 @@ module _ (a f : ℕ) (kind left right : List ℕ) (h : Fit a f kind left right) 
     pub right-before : getD kind i 0 ≢ code "N" → Among (p - 1) (getD right i 0)
     right-before n = names-right (p - 1) (getD kind i 0) (getD left i 0) (getD right i 0) n names
 
-    at-gate : gateTruth at (gateOf (getD kind i 0) (getD left i 0) (getD right i 0)) ≡ at p
-    at-gate =
-        let n : a + f + suc i ≡ p = omega arith in
-        let u : i < length (gatesOf kind left right) = omega (arith, length-gates kind left right (h .lefts) (h .rights)) in
-        sym (ap at (sym n) ∙ truth-gate (circuit a f kind left right []) plan pattern (h .gates) (Gate.not 0) i u ∙ ap (gateTruth at) (gate-at kind left right (Gate.not 0) i (omega arith) (omega arith) (omega arith)))
+  module _ (plan pattern : ℕ) where
+    abbrev t : Sheet
+    t = circuit a f kind left right []
 
-    pub at-not : (x : Bool) → getD kind i 0 ≡ code "N" → x ≡ at (getD left i 0) → not x ≡ at p
-    at-not x k d = gate-not at (getD kind i 0) (getD left i 0) (getD right i 0) x k d ∙ at-gate
+    abbrev at : ℕ → Bool
+    at = truth t plan pattern
 
-    pub at-first : (x : Bool) → getD kind i 0 ≢ code "N" → decidesOf (getD kind i 0) x ≡ true → x ≡ at (getD left i 0) → x ≡ at p
-    at-first x k d u = gate-first at (getD kind i 0) (getD left i 0) (getD right i 0) x k d u ∙ at-gate
+    -- ---- switches and faults are digits
+    pub at-switch : (p : ℕ) → Among a p → eqb (plan / 2 ^ (a - p) % 2) 1 ≡ at p
+    unfolding switchOn
+    at-switch p m = sym (truth-switch t plan pattern p m ∙ bits-at a plan p m)
 
-    pub at-second : (x y : Bool) → getD kind i 0 ≢ code "N" → decidesOf (getD kind i 0) x ≡ false → x ≡ at (getD left i 0) → y ≡ at (getD right i 0) → y ≡ at p
-    at-second x y k d u w = gate-second at (getD kind i 0) (getD left i 0) (getD right i 0) x y k d u w ∙ at-gate
+    pub at-fault : (p : ℕ) → a < p → p ≤ a + f → eqb (pattern / 2 ^ (a + f - p) % 2) 1 ≡ at p
+    at-fault p l m =
+        let q : ℕ = p - a in
+        let e : a + q ≡ p = omega arith in
+        let d : f - q ≡ a + f - p = omega arith in
+        let u : Among f q = (omega arith, omega arith) in
+        sym (ap at (sym e) ∙ truth-fault t plan pattern q u ∙ bits-at f pattern q u ∙ ap (λ n. eqb (pattern / 2 ^ n % 2) 1) d)
+
+    -- ---- a gate is what its points make it
+    module _ {p i : ℕ} (g : IsGate a f (length kind) p i) where
+      at-gate : gateTruth at (gate i) ≡ at p
+      at-gate =
+          let n : a + f + suc i ≡ p = omega arith in
+          sym (ap at (sym n) ∙ truth-gate t plan pattern (h .gates) (Gate.not 0) i (listed g) ∙ ap (gateTruth at) (as-gate g))
+
+      pub at-not : (x : Bool) → getD kind i 0 ≡ code "N" → x ≡ at (getD left i 0) → not x ≡ at p
+      at-not x k d = gate-not at (getD kind i 0) (getD left i 0) (getD right i 0) x k d ∙ at-gate
+
+      pub at-first : (x : Bool) → getD kind i 0 ≢ code "N" → decidesOf (getD kind i 0) x ≡ true → x ≡ at (getD left i 0) → x ≡ at p
+      at-first x k d u = gate-first at (getD kind i 0) (getD left i 0) (getD right i 0) x k d u ∙ at-gate
+
+      pub at-second : (x y : Bool) → getD kind i 0 ≢ code "N" → decidesOf (getD kind i 0) x ≡ false → x ≡ at (getD left i 0) → y ≡ at (getD right i 0) → y ≡ at p
+      at-second x y k d u w = gate-second at (getD kind i 0) (getD left i 0) (getD right i 0) x y k d u w ∙ at-gate
