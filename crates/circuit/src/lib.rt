@@ -4,6 +4,8 @@
 // Gates, rules and wishes are lent as slices, a column for each field (`specs/Lent.antt`). Every
 // promise is an equation with a definition of the crate `scope`; this crate rests on no other.
 pub mod point;
+pub mod rule;
+pub mod wish;
 
 // A plan: the switches as binary digits, switch 1 highest, on as 1. The source's μ.
 pub struct Plan(pub u32);

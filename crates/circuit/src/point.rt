@@ -7,7 +7,7 @@ ghost use lib.Dec.{eqb};
 ghost use lib.ListN.{length};
 ghost use Rattle.scope.specs.Sheet.{Among};
 ghost use Rattle.scope.specs.Meaning as meaning;
-ghost use Rattle.circuit.specs.Lent.{circuit, Fit};
+ghost use Rattle.circuit.specs.Lent.{circuit, Gates};
 ghost use Rattle.circuit.specs.Steps.{decidesOf};
 
 // The kinds of gates, by their letters; every other kind is an or.
@@ -48,7 +48,7 @@ fn truth_at(
     pattern: Pattern,
     point: u32,
 ) -> bool
-    requires { ⌜ Fit a f (now (now kind)) (now (now left)) (now (now right)) × Among (a + f + length (now (now kind))) point ⌝ }
+    requires { ⌜ Gates a f (now (now kind)) (now (now left)) (now (now right)) × Among (a + f + length (now (now kind))) point ⌝ }
     ensures { λ r. ⌜ r ≡ meaning.truth (circuit a f (now (now (kind .entry))) (now (now (left .entry))) (now (now (right .entry))) []) (plan .0) (pattern .0) point ⌝ }
 {
     if point <= a {
@@ -80,7 +80,7 @@ pub fn truth(
     pattern: Pattern,
     point: u32,
 ) -> bool
-    requires { ⌜ Fit a f (now kind) (now left) (now right) × Among (a + f + length (now kind)) point ⌝ }
+    requires { ⌜ Gates a f (now kind) (now left) (now right) × Among (a + f + length (now kind)) point ⌝ }
     ensures { λ r. ⌜ r ≡ meaning.truth (circuit a f (now (kind .entry)) (now (left .entry)) (now (right .entry)) []) (plan .0) (pattern .0) point ⌝ }
 {
     truth_at(&kind, &left, &right, a, f, plan, pattern, point)

@@ -13,9 +13,9 @@ use Rattle.scope.specs.Sheet.{Gate, Sheet, Among, Names}
 use Rattle.scope.specs.Meaning.{gateTruth, switchOn, truth}
 use Rattle.scope.specs.laws.Tests.{clash}
 use Rattle.scope.specs.laws.Points.{bits-at, truth-switch, truth-fault, truth-gate}
-use Rattle.circuit.specs.Lent.{gateOf, gatesOf, circuit, Fit}
+use Rattle.circuit.specs.Lent.{gateOf, gatesOf, circuit, Gates}
 use Rattle.circuit.specs.Steps.{decidesOf}
-use Rattle.circuit.specs.laws.Columns.{length-gates, gate-at, ordered-at, names-left, names-right}
+use Rattle.circuit.specs.laws.Columns.{length-rows, row-at, ordered-at, names-left, names-right}
 
 -- ---- a gate of kind k, by the truth x of its first point and y of its second
 module _ (v : ℕ → Bool) (k p q : ℕ) where
@@ -49,22 +49,22 @@ pub record IsGate (a f n p i : ℕ) : Type 0 where
   pub after : a + f < p
   pub last : p ≤ a + f + n
 
-module _ {a f : ℕ} {kind left right : List ℕ} (h : Fit a f kind left right) where
+module _ {a f : ℕ} {kind left right : List ℕ} (h : Gates a f kind left right) where
   abbrev gate : ℕ → Gate
   gate i = gateOf (getD kind i 0) (getD left i 0) (getD right i 0)
 
   -- ---- a gate names points before its own
   module _ {p i : ℕ} (g : IsGate a f (length kind) p i) where
     listed : i < length (gatesOf kind left right)
-    listed = omega (arith, length-gates kind left right (h .lefts) (h .rights))
+    listed = omega (arith, length-rows gateOf kind left right (h .columns .seconds) (h .columns .thirds))
 
     as-gate : getD (gatesOf kind left right) i (Gate.not 0) ≡ gate i
-    as-gate = gate-at kind left right (Gate.not 0) i (omega arith) (omega arith) (omega arith)
+    as-gate = row-at gateOf kind left right (Gate.not 0) i (h .columns .seconds) (h .columns .thirds) (omega arith)
 
     names : Names (p - 1) (gate i)
     names =
         let n : a + f + i ≡ p - 1 = omega arith in
-        rw (← as-gate, ← n) (ordered-at (a + f) (gatesOf kind left right) (Gate.not 0) i (h .gates) listed)
+        rw (← as-gate, ← n) (ordered-at (a + f) (gatesOf kind left right) (Gate.not 0) i (h .ordered) listed)
 
     pub left-before : Among (p - 1) (getD left i 0)
     left-before = names-left (p - 1) (getD kind i 0) (getD left i 0) (getD right i 0) names
@@ -97,7 +97,7 @@ module _ {a f : ℕ} {kind left right : List ℕ} (h : Fit a f kind left right) 
       at-gate : gateTruth at (gate i) ≡ at p
       at-gate =
           let n : a + f + suc i ≡ p = omega arith in
-          sym (ap at (sym n) ∙ truth-gate t plan pattern (h .gates) (Gate.not 0) i (listed g) ∙ ap (gateTruth at) (as-gate g))
+          sym (ap at (sym n) ∙ truth-gate t plan pattern (h .ordered) (Gate.not 0) i (listed g) ∙ ap (gateTruth at) (as-gate g))
 
       pub at-not : (x : Bool) → getD kind i 0 ≡ code "N" → x ≡ at (getD left i 0) → not x ≡ at p
       at-not x k d = gate-not at (getD kind i 0) (getD left i 0) (getD right i 0) x k d ∙ at-gate
