@@ -1,90 +1,83 @@
+use Prim.Native.Nat.{_-_, _≤_}
+use mathlib.Core.Path.{_≡_, refl, sym, _∙_}
+use borrow.Author.Needs.{needs}
+use Rattle.scope.specs.Meaning.{any, sameSet}
+use Rattle.circuit.specs.Steps.{wish, earlier}
+use Rattle.circuit.specs.laws.Wishes.{repeat-more, repeat-stop, repeat-end}
 use Rattle.circuit.proofs.wish.repeated.Statement.{statement}
 use Rattle.circuit.proofs.wish.repeated.Tie as tie
-use Rattle.circuit.proofs.wish.repeated.Reads as reads
-use Rattle.circuit.proofs.wish.repeated.Lts as lts
-use Rattle.circuit.proofs.wish.same_set.Reads as same-set-reads
 
 abbrev Inv-loop : tie.InvT-loop
-Inv-loop first second third i j₀ j = ?
+Inv-loop first second third i j₀ j =
+    let w = sameSet (wish first second third i) in
+    (j ≤ i) × (any w (earlier first second third j) ≡ any w (earlier first second third i))
 
 abbrev μ-loop : tie.MeasureT-loop
-μ-loop first second third i j₀ j = ?
+μ-loop first second third i j₀ j = j
 
--- src/wish.rt:89:5
 loop-holds : tie.Need-loop-holds Inv-loop μ-loop
-loop-holds c = ?
+loop-holds c = (search needs, refl)
 
--- src/wish.rt:90:9
 sub-j : tie.Need-sub-j Inv-loop μ-loop
-sub-j c = ?
+sub-j c = search needs
 
--- src/wish.rt:91:21
 mul-same-set : tie.Need-mul-same-set Inv-loop μ-loop
-mul-same-set c = ?
+mul-same-set c = search needs
 
--- src/wish.rt:91:21
 shared-slice-read-same-set : tie.Need-shared-slice-read-same-set Inv-loop μ-loop
-shared-slice-read-same-set c = ?
+shared-slice-read-same-set c = search needs
 
--- src/wish.rt:91:31
 mul-same-set-2 : tie.Need-mul-same-set-2 Inv-loop μ-loop
-mul-same-set-2 c = ?
+mul-same-set-2 c = search needs
 
--- src/wish.rt:91:31
 shared-slice-read-same-set-2 : tie.Need-shared-slice-read-same-set-2 Inv-loop μ-loop
-shared-slice-read-same-set-2 c = ?
+shared-slice-read-same-set-2 c = search needs
 
--- src/wish.rt:91:42
 mul-same-set-3 : tie.Need-mul-same-set-3 Inv-loop μ-loop
-mul-same-set-3 c = ?
+mul-same-set-3 c = search needs
 
--- src/wish.rt:91:42
 shared-slice-read-same-set-3 : tie.Need-shared-slice-read-same-set-3 Inv-loop μ-loop
-shared-slice-read-same-set-3 c = ?
+shared-slice-read-same-set-3 c = search needs
 
--- src/wish.rt:91:52
 mul-same-set-4 : tie.Need-mul-same-set-4 Inv-loop μ-loop
-mul-same-set-4 c = ?
+mul-same-set-4 c = search needs
 
--- src/wish.rt:91:52
 shared-slice-read-same-set-4 : tie.Need-shared-slice-read-same-set-4 Inv-loop μ-loop
-shared-slice-read-same-set-4 c = ?
+shared-slice-read-same-set-4 c = search needs
 
--- src/wish.rt:91:62
 mul-same-set-5 : tie.Need-mul-same-set-5 Inv-loop μ-loop
-mul-same-set-5 c = ?
+mul-same-set-5 c = search needs
 
--- src/wish.rt:91:62
 shared-slice-read-same-set-5 : tie.Need-shared-slice-read-same-set-5 Inv-loop μ-loop
-shared-slice-read-same-set-5 c = ?
+shared-slice-read-same-set-5 c = search needs
 
--- src/wish.rt:91:73
 mul-same-set-6 : tie.Need-mul-same-set-6 Inv-loop μ-loop
-mul-same-set-6 c = ?
+mul-same-set-6 c = search needs
 
--- src/wish.rt:91:73
 shared-slice-read-same-set-6 : tie.Need-shared-slice-read-same-set-6 Inv-loop μ-loop
-shared-slice-read-same-set-6 c = ?
+shared-slice-read-same-set-6 c = search needs
 
--- src/wish.rt:91:12
 same-set-requires : tie.Need-same-set-requires Inv-loop μ-loop
-same-set-requires c κs = ?
+same-set-requires c κs = search needs
 
--- src/wish.rt:92:13
 returns : tie.Need-returns Inv-loop μ-loop
-returns c = ?
+unfolding wish
+returns c =
+    let s = c .before .before .before .before .before .before .before .before .before .before .before .before .before in
+    repeat-stop (s .pre .0) _ _ (c .before .before .before .before .before .before .before .before .loop-test .taken) (sym (c .before .same-set .ensures) ∙ c .if1 .taken) ∙ c .before .before .before .before .before .before .before .before .before .loop .inv .1
 
--- src/wish.rt:89:5
 loop-less : tie.Need-loop-less Inv-loop μ-loop
-loop-less c = ?
+loop-less c = search needs
 
--- src/wish.rt:89:5
 loop-again : tie.Need-loop-again Inv-loop μ-loop
-loop-again c = ?
+unfolding wish
+loop-again c =
+    let s = c .before .before .before .before .before .before .before .before .before .before .before .before .before in
+    (search needs, repeat-more (s .pre .0) _ _ (c .before .before .before .before .before .before .before .before .loop-test .taken) (sym (c .before .same-set .ensures) ∙ c .if1 .left) ∙ c .before .before .before .before .before .before .before .before .before .loop .inv .1)
 
--- src/wish.rt:84:1
 returns-2 : tie.Need-returns-2 Inv-loop μ-loop
-returns-2 c = ?
+returns-2 c =
+    repeat-end (c .before .before .before .before .before .pre .0) _ _ (c .loop-test .left) ∙ c .before .loop .inv .1
 
 pub repeated-spec : {M : Type 1} → statement M
 repeated-spec =
