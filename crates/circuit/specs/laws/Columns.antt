@@ -1,5 +1,5 @@
 -- Columns, row by row. Assumes nothing.
-use Prim.Native.Nat.{ℕ, zero, suc, _+_, _<_}
+use Prim.Native.Nat.{ℕ, zero, suc, _+_, _≤_, _<_}
 use Prim.Native.Char.{code}
 use native.Mathlib.Nat.{add-zero}
 use native.Mathlib.Numerals.{add-one}
@@ -13,7 +13,7 @@ use lib.ListN.{length, getD, take, drop, set}
 use lib.Seq.{length-take-le, drop-cons, take-suc-set}
 use borrow.Author.Tests.{eqb-true}
 use Rattle.scope.specs.Sheet.{Gate, All, Among, Names, Ordered}
-use Rattle.circuit.specs.Lent.{rows, gateOf}
+use Rattle.circuit.specs.Lent.{rows, Columns, gateOf}
 
 pub all-at : {A : Type 0} (P : A → Type 0) (s : List A) (d : A) (i : ℕ) → All P s → i < length s → P (getD s i d)
 all-at P [] d i h l = absurd (omega arith)
@@ -60,6 +60,14 @@ module _ {A : Type 0} (f : ℕ → ℕ → ℕ → A) where
       let q : length (take n ys) ≡ n = length-take-le n ys (omega arith) in
       let r : length (take n zs) ≡ n = length-take-le n zs (omega arith) in
       rw (add-one n, take-suc-set xs n x a, take-suc-set ys n y b, take-suc-set zs n z c) (row-snoc (take n xs) (take n ys) (take n zs) x y z (q ∙ sym p) (r ∙ sym p))
+
+-- the first n rows of full columns
+pub front : (m n : ℕ) (xs ys zs : List ℕ) → n ≤ m → length xs ≡ m → length ys ≡ m → length zs ≡ m → Columns m (take n xs) (take n ys) (take n zs)
+front m n xs ys zs h e f g =
+    let p : length (take n xs) ≡ n = length-take-le n xs (omega arith) in
+    let q : length (take n ys) ≡ n = length-take-le n ys (omega arith) in
+    let r : length (take n zs) ≡ n = length-take-le n zs (omega arith) in
+    record { few = omega arith; seconds = q ∙ sym p; thirds = r ∙ sym p }
 
 -- ---- gates
 
