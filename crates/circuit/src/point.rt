@@ -2,10 +2,11 @@ use crate::Pattern;
 use crate::Plan;
 ghost use mathlib.Core.List.{[]};
 ghost use mathlib.Core.Path.{_≡_};
-ghost use Prim.Native.Nat.{_+_, _/_, _%_, _^_, _<_};
+ghost use Prim.Native.Nat.{_+_, _/_, _%_, _^_, _≤_, _<_};
 ghost use lib.Dec.{eqb};
 ghost use lib.ListN.{length};
 ghost use Rattle.scope.specs.Sheet.{Among};
+ghost use Rattle.scope.specs.Meaning.{bits, nth};
 ghost use Rattle.scope.specs.Meaning as meaning;
 ghost use Rattle.circuit.specs.Lent.{circuit, Gates};
 ghost use Rattle.circuit.specs.Steps.{decidesOf};
@@ -20,6 +21,14 @@ pub fn bit(n: u32, k: u32) -> bool
     ensures { λ r. ⌜ r ≡ eqb (n / 2 ^ k % 2) 1 ⌝ }
 {
     (n >> k) % 2 == 1
+}
+
+// Digit p of n binary digits of a plan or a pattern, the first highest.
+pub fn digit(number: u32, n: u32, p: u32) -> bool
+    requires { ⌜ (n ≤ 32) × Among n p ⌝ }
+    ensures { λ r. ⌜ r ≡ nth (bits n number) p ⌝ }
+{
+    bit(number, n - p)
 }
 
 fn wide(n: u32) -> usize
@@ -52,11 +61,11 @@ fn truth_at(
     ensures { λ r. ⌜ r ≡ meaning.truth (circuit a f (now (now (kind .entry))) (now (now (left .entry))) (now (now (right .entry))) []) (plan .0) (pattern .0) point ⌝ }
 {
     if point <= a {
-        return bit(plan.0, a - point);
+        return digit(plan.0, a, point);
     }
     let inputs = a + f;
     if point <= inputs {
-        return bit(pattern.0, inputs - point);
+        return digit(pattern.0, f, point - a);
     }
     let i = wide(point - inputs - 1);
     let k = kind[i];

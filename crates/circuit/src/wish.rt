@@ -1,5 +1,5 @@
 // Wishes: which are kept, which say the same as an earlier one, and what a plan costs.
-use crate::point::bit;
+use crate::point::digit;
 use crate::Plan;
 ghost use mathlib.Core.Bool.{cond};
 ghost use mathlib.Core.List.{[], _∷_, _++_};
@@ -20,7 +20,7 @@ fn literal_true(code: u32, a: u32, plan: Plan) -> bool
     if code == 0 {
         return false;
     }
-    let on = bit(plan.0, a - code / 2);
+    let on = digit(plan.0, a, code / 2);
     if code % 2 == 1 {
         return !on;
     }

@@ -1,5 +1,5 @@
 -- Literals and clauses by their codes. Assumes nothing.
-use Prim.Native.Nat.{ℕ, _-_, _/_, _%_, _^_}
+use Prim.Native.Nat.{ℕ, _/_, _%_}
 use native.Mathlib.Omega.{arith}
 use mathlib.Core.Bool.{Bool, true, false, cond, not, _&&_, _||_, or-assoc, and-assoc, or-false, and-true}
 use mathlib.Core.List.{List, [], _∷_, _++_}
@@ -8,11 +8,10 @@ use mathlib.Core.Path.{_≡_, refl, sym, ap, ap₂, _∙_}
 use lib.Dec.{eqb}
 use borrow.Author.Tests.{eqb-true, eqb-false, eq-eqb, ne-eqb}
 use Rattle.scope.specs.Sheet.{Number, number, Clause, All, Among}
-use Rattle.scope.specs.Meaning.{all, any, literalTrue, keeps, sameLiteral, within, switchOn}
+use Rattle.scope.specs.Meaning.{all, any, literalTrue, keeps, sameLiteral, within}
 use Rattle.scope.specs.laws.Tests.{bool-iff}
-use Rattle.scope.specs.laws.Points.{bits-at}
 use Rattle.scope.specs.laws.Wishes.{same-literal, literal-same}
-use Rattle.circuit.specs.Lent.{literalsOf, clauseOf, wishing}
+use Rattle.circuit.specs.Lent.{literalsOf, clauseOf}
 
 -- ---- lists joined
 module _ {A : Type 0} where
@@ -63,10 +62,6 @@ module _ (c : ℕ) (n : c ≢ 0) where
   pub keeps-literal : (v : ℕ → Bool) → keeps v (literalsOf c) ≡ cond (eqb (c % 2) 1) (not (v (c / 2))) (v (c / 2))
   unfolding keeps
   keeps-literal v = rw one-literal (or-false (literalTrue v (number (eqb (c % 2) 1) (c / 2))))
-
-pub switch-bit : (a plan p : ℕ) → Among a p → eqb (plan / 2 ^ (a - p) % 2) 1 ≡ switchOn (wishing a []) plan p
-unfolding switchOn
-switch-bit a plan p h = sym (bits-at a plan p h)
 
 -- ---- literals are the same if their codes are
 same-code : (c u : ℕ) → number (eqb (c % 2) 1) (c / 2) ≡ number (eqb (u % 2) 1) (u / 2) → c ≡ u

@@ -1,5 +1,5 @@
 -- The truth of the points of lent columns, as the code goes through them. Assumes nothing.
-use Prim.Native.Nat.{ℕ, suc, _+_, _-_, _/_, _%_, _^_, _≤_, _<_}
+use Prim.Native.Nat.{ℕ, suc, _+_, _-_, _≤_, _<_}
 use Prim.Native.Char.{code}
 use native.Mathlib.Omega.{arith}
 use mathlib.Core.Bool.{Bool, true, false, cond, not}
@@ -10,9 +10,9 @@ use lib.Dec.{eqb}
 use lib.ListN.{length, getD}
 use borrow.Author.Tests.{ne-eqb}
 use Rattle.scope.specs.Sheet.{Gate, Sheet, Among, Names}
-use Rattle.scope.specs.Meaning.{gateTruth, switchOn, truth}
+use Rattle.scope.specs.Meaning.{bits, nth, gateTruth, switchOn, truth}
 use Rattle.scope.specs.laws.Tests.{clash}
-use Rattle.scope.specs.laws.Points.{bits-at, truth-switch, truth-fault, truth-gate}
+use Rattle.scope.specs.laws.Points.{truth-switch, truth-fault, truth-gate}
 use Rattle.circuit.specs.Lent.{gateOf, gatesOf, circuit, Gates}
 use Rattle.circuit.specs.Steps.{decidesOf}
 use Rattle.circuit.specs.laws.Columns.{length-rows, row-at, ordered-at, names-left, names-right}
@@ -80,17 +80,14 @@ module _ {a f : ℕ} {kind left right : List ℕ} (h : Gates a f kind left right
     at = truth t plan pattern
 
     -- ---- switches and faults are digits
-    pub at-switch : (p : ℕ) → Among a p → eqb (plan / 2 ^ (a - p) % 2) 1 ≡ at p
+    pub at-switch : (p : ℕ) → Among a p → nth (bits a plan) p ≡ at p
     unfolding switchOn
-    at-switch p m = sym (truth-switch t plan pattern p m ∙ bits-at a plan p m)
+    at-switch p m = sym (truth-switch t plan pattern p m)
 
-    pub at-fault : (p : ℕ) → a < p → p ≤ a + f → eqb (pattern / 2 ^ (a + f - p) % 2) 1 ≡ at p
+    pub at-fault : (p : ℕ) → a < p → p ≤ a + f → nth (bits f pattern) (p - a) ≡ at p
     at-fault p l m =
-        let q : ℕ = p - a in
-        let e : a + q ≡ p = omega arith in
-        let d : f - q ≡ a + f - p = omega arith in
-        let u : Among f q = (omega arith, omega arith) in
-        sym (ap at (sym e) ∙ truth-fault t plan pattern q u ∙ bits-at f pattern q u ∙ ap (λ n. eqb (pattern / 2 ^ n % 2) 1) d)
+        let e : a + (p - a) ≡ p = omega arith in
+        sym (ap at (sym e) ∙ truth-fault t plan pattern (p - a) (omega arith, omega arith))
 
     -- ---- a gate is what its points make it
     module _ {p i : ℕ} (g : IsGate a f (length kind) p i) where
