@@ -1,0 +1,97 @@
+use Prim.Native.Nat.{_+_, _-_, _≤_}
+use native.Mathlib.Omega.{arith}
+use mathlib.Core.List.{[]}
+use mathlib.Core.Logic.{⊎-elim}
+use mathlib.Core.Path.{_≡_, refl, sym, _∙_}
+use lib.ListN.{length, drop}
+use borrow.Author.Tests.{not-true, not-false}
+use borrow.Author.Needs.{needs}
+use Rattle.scope.specs.Meaning.{kept, broken, switchOn}
+use Rattle.circuit.specs.Lent.{wishesOf, wishing}
+use Rattle.circuit.specs.Steps.{wish}
+use Rattle.circuit.specs.laws.Wishes.{wish-at, broken-kept, broken-more, broken-end}
+use Rattle.circuit.proofs.wish.broken.Statement.{statement}
+use Rattle.circuit.proofs.wish.broken.Tie as tie
+
+abbrev Inv-loop : tie.InvT-loop
+Inv-loop first second third a plan count₀ i₀ count i =
+    let v = switchOn (wishing a []) (plan .0) in
+    let ws = wishesOf first second third in
+    (i ≤ length first) × (count ≤ i) × (count + broken v (drop i ws) ≡ broken v ws)
+
+abbrev μ-loop : tie.MeasureT-loop
+μ-loop first second third a plan count₀ i₀ count i = length first - i
+
+loop-holds : tie.Need-loop-holds Inv-loop μ-loop
+loop-holds c = (search needs, search needs, omega arith)
+
+mul-kept : tie.Need-mul-kept Inv-loop μ-loop
+mul-kept c = search needs
+
+shared-slice-read-kept : tie.Need-shared-slice-read-kept Inv-loop μ-loop
+shared-slice-read-kept c = search needs
+
+mul-kept-2 : tie.Need-mul-kept-2 Inv-loop μ-loop
+mul-kept-2 c = search needs
+
+shared-slice-read-kept-2 : tie.Need-shared-slice-read-kept-2 Inv-loop μ-loop
+shared-slice-read-kept-2 c = search needs
+
+mul-kept-3 : tie.Need-mul-kept-3 Inv-loop μ-loop
+mul-kept-3 c = search needs
+
+shared-slice-read-kept-3 : tie.Need-shared-slice-read-kept-3 Inv-loop μ-loop
+shared-slice-read-kept-3 c = search needs
+
+kept-requires : tie.Need-kept-requires Inv-loop μ-loop
+kept-requires c κs =
+    let s = c .before .before .before .before .before .before .before .before in
+    (s .pre .switches, wish-at (s .pre .columns) _ _ (c .before .before .before .loop-test .taken) (s .pre .wishes))
+
+add-count : tie.Need-add-count Inv-loop μ-loop
+add-count c = search needs
+
+add-i : tie.Need-add-i Inv-loop μ-loop
+add-i c = search needs
+
+loop-less : tie.Need-loop-less Inv-loop μ-loop
+loop-less c = search needs
+
+loop-again : tie.Need-loop-again Inv-loop μ-loop
+unfolding kept wish
+loop-again c =
+    let s = c .before .before .before .before .before .before .before .before .before .before in
+    let v = switchOn (wishing (s .args .a) []) (s .args .plan .0) in
+    let i = c .before .before .before .before .before .before .loop .i in
+    let l = c .before .before .before .before .before .loop-test .taken in
+    let e = sym (c .before .kept .ensures) in
+    ⊎-elim
+    (λ w. (omega arith, omega arith, omega (arith, broken-more (s .pre .columns) v i l (e ∙ not-true _ (w .0 .taken)))))
+    (λ w. (omega arith, omega arith, omega (arith, broken-kept (s .pre .columns) v i l (e ∙ not-false _ (w .0 .left)))))
+    (c .if1 .came)
+
+returns : tie.Need-returns Inv-loop μ-loop
+returns c =
+    let s = c .before .before .before .before .before in
+    let v = switchOn (wishing (s .args .a) []) (s .args .plan .0) in
+    (omega (arith, broken-end (s .pre .columns) v (c .before .loop .i) (c .loop-test .left)), omega arith)
+
+pub broken-spec : {M : Type 1} → statement M
+broken-spec =
+    tie.close
+    (tie.spec
+    Inv-loop
+    μ-loop
+    loop-holds
+    mul-kept
+    shared-slice-read-kept
+    mul-kept-2
+    shared-slice-read-kept-2
+    mul-kept-3
+    shared-slice-read-kept-3
+    kept-requires
+    add-count
+    add-i
+    loop-less
+    loop-again
+    returns)

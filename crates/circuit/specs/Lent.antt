@@ -1,0 +1,78 @@
+-- What lent columns and answers say: gates, wishes, and the sheets that they make. Assumes nothing.
+use Prim.Native.Nat.{ℕ, _+_, _/_, _%_, _≤_}
+use Prim.Native.Char.{code}
+use mathlib.Core.Bool.{cond}
+use mathlib.Core.List.{List, [], _∷_, _++_}
+use mathlib.Core.Option.{Option, none, some}
+use mathlib.Core.Path.{_≡_}
+use lib.Dec.{eqb}
+use lib.ListN.{length, take}
+use Rattle.scope.specs.Sheet.{number, Clause, Gate, Sheet, sheet, mostSwitches, mostFaults, mostGates, mostWishes, All, Ordered, Wish}
+use Rattle.circuit.specs.declared.rule.Missed.{Missed}
+use Rattle.circuit.specs.declared.rule.Missed.the-variants.{Nothing, At}
+use Rattle.circuit.specs.declared.wish.Wishes.{Wishes}
+
+-- ---- three columns, a row for each index
+
+-- columns of different lengths end with the shortest
+unfoldable pub rows : {A : Type 0} → (ℕ → ℕ → ℕ → A) → (first second third : List ℕ) → List A
+rows f [] ys zs = []
+rows f (x ∷ xs) [] zs = []
+rows f (x ∷ xs) (y ∷ ys) [] = []
+rows f (x ∷ xs) (y ∷ ys) (z ∷ zs) = f x y z ∷ rows f xs ys zs
+
+-- equal columns of at most n
+pub record Columns (n : ℕ) (first second third : List ℕ) : Type 0 where
+  pub few : length first ≤ n
+  pub seconds : length second ≡ length first
+  pub thirds : length third ≡ length first
+
+-- ---- gates: the letter of the kind, and the points named; every kind but N and A is an or
+
+unfoldable pub gateOf : (kind left right : ℕ) → Gate
+gateOf k p q = cond (eqb k (code "N")) (Gate.not p) (cond (eqb k (code "A")) (Gate.and p q) (Gate.or p q))
+
+abbrev pub gatesOf : (kind left right : List ℕ) → List Gate
+gatesOf = rows gateOf
+
+-- the sheet with these gates and rules, and no wish
+abbrev pub circuit : (a f : ℕ) (kind left right rules : List ℕ) → Sheet
+circuit a f kind left right rules = sheet a f (gatesOf kind left right) rules []
+
+-- columns that a sheet may have for gates
+pub record Gates (a f : ℕ) (kind left right : List ℕ) : Type 0 where
+  pub switches : a ≤ mostSwitches
+  pub faults : f ≤ mostFaults
+  pub columns : Columns mostGates kind left right
+  pub ordered : Ordered (a + f) (gatesOf kind left right)
+
+-- ---- wishes: the codes of three literals
+
+-- 0 is no literal, 2k is k, and 2k + 1 is -k
+unfoldable pub literalsOf : ℕ → Clause
+literalsOf c = cond (eqb c 0) [] (number (eqb (c % 2) 1) (c / 2) ∷ [])
+
+unfoldable pub clauseOf : (x y z : ℕ) → Clause
+clauseOf x y z = literalsOf x ++ (literalsOf y ++ literalsOf z)
+
+abbrev pub wishesOf : (first second third : List ℕ) → List Clause
+wishesOf = rows clauseOf
+
+-- the sheet with a switches and these wishes
+abbrev pub wishing : (a : ℕ) → List Clause → Sheet
+wishing a ws = sheet a 0 [] [] ws
+
+-- columns that a sheet may have for wishes
+pub record Clauses (a : ℕ) (first second third : List ℕ) : Type 0 where
+  pub switches : a ≤ mostSwitches
+  pub columns : Columns mostWishes first second third
+  pub wishes : All (Wish a) (wishesOf first second third)
+
+-- ---- answers
+
+abbrev pub missedOf : Missed → Option ℕ
+missedOf Nothing = none
+missedOf (At p) = some (p .0)
+
+abbrev pub listed : Wishes → List Clause
+listed w = wishesOf (take (w .count) (w .first)) (take (w .count) (w .second)) (take (w .count) (w .third))

@@ -1,0 +1,6 @@
+-- what is proved of the definitions
+pub mod Columns
+pub mod Points
+pub mod Patterns
+pub mod Literals
+pub mod Wishes
