@@ -13,6 +13,7 @@ ghost use Rattle.circuit.specs.Steps.{decidesOf};
 
 // The kinds of gates, by their letters; every other kind is an or.
 const NOT: u8 = b'N';
+
 const AND: u8 = b'A';
 
 // Binary digit k of n.

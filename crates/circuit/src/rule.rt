@@ -1,7 +1,7 @@
 // Rules: whether a plan passes a pattern, and the first pattern that it does not pass.
-use crate::point::truth;
 use crate::Pattern;
 use crate::Plan;
+use crate::point::truth;
 ghost use mathlib.Core.Path.{_≡_};
 ghost use Prim.Native.Nat.{_+_, _^_, _<_};
 ghost use lib.ListN.{length};
@@ -35,7 +35,8 @@ pub fn passes(
     true
 }
 
-fn power(k: u32) -> u32
+// 2 to the k.
+pub fn power(k: u32) -> u32
     requires { ⌜ k < 32 ⌝ }
     ensures { λ r. ⌜ r ≡ 2 ^ k ⌝ }
 {

@@ -1,6 +1,6 @@
 // Wishes: which are kept, which say the same as an earlier one, and what a plan costs.
-use crate::point::digit;
 use crate::Plan;
+use crate::point::digit;
 ghost use mathlib.Core.Bool.{cond};
 ghost use mathlib.Core.List.{[], _∷_, _++_};
 ghost use mathlib.Core.Path.{_≡_};

@@ -1,0 +1,56 @@
+use mathlib.Core.Path.{sym, _∙_}
+use Rattle.scope.specs.Meaning.{switchOn}
+use Rattle.scope.specs.Rule.{passesAll}
+use Rattle.circuit.specs.Lent.{wishesOf}
+use Rattle.search.specs.Table.{tableOf}
+use Rattle.search.specs.laws.Steps.{takes-over, costs-more, fails}
+use borrow.Author.Needs.{needs}
+use Rattle.search.proofs.best.with_plan.Statement.{statement}
+use Rattle.search.proofs.best.with_plan.Tie as tie
+use Rattle.search.proofs.best.with_plan.Reads as reads
+use Rattle.search.proofs.best.with_plan.Lts as lts
+use Rattle.circuit.proofs.wish.broken.Reads as broken-reads
+use Rattle.search.proofs.best.improves.Reads as improves-reads
+use Rattle.search.proofs.best.passes_all.Reads as passes-all-reads
+
+broken-requires : tie.Need-broken-requires
+broken-requires c κs = search needs
+
+improves-requires : tie.Need-improves-requires
+improves-requires c κs = search needs
+
+passes-all-requires : tie.Need-passes-all-requires
+passes-all-requires c κs = search needs
+
+returns : tie.Need-returns
+unfolding switchOn
+returns c =
+    let s = c .before .before .before .before .before .before .before .before .before .before .before .before .before in
+    let a = s .args in
+    let t = tableOf (a .a) (a .f) (a .kind .now) (a .left .now) (a .right .now) (a .rules .now) (a .first .now) (a .second .now) (a .third .now) in
+    let ok = passesAll t (a .plan .0) (a .list .now) in
+    let cost = c .before .before .before .before .broken .ensures .0 in
+    (takes-over t (a .plan .0) _ (a .best) ok (s .pre .1) cost (sym (c .before .before .before .improves .ensures) ∙ c .before .before .if1 .taken) (sym (c .before .passes-all .ensures (wishesOf (a .first .now) (a .second .now) (a .third .now))) ∙ c .if2 .taken), cost)
+
+returns-2 : tie.Need-returns-2
+unfolding switchOn
+returns-2 c =
+    let s = c .before .before .before .before .before .before .before .before .before .before .before .before .before in
+    let a = s .args in
+    let t = tableOf (a .a) (a .f) (a .kind .now) (a .left .now) (a .right .now) (a .rules .now) (a .first .now) (a .second .now) (a .third .now) in
+    let ok = passesAll t (a .plan .0) (a .list .now) in
+    (fails t (a .plan .0) _ (a .best) ok (s .pre .1) (c .before .before .before .before .broken .ensures .0) (sym (c .before .passes-all .ensures (wishesOf (a .first .now) (a .second .now) (a .third .now))) ∙ c .if2 .left), s .pre .1)
+
+returns-3 : tie.Need-returns-3
+unfolding switchOn
+returns-3 c =
+    let s = c .before .before .before .before .before .before .before .before .before .before .before in
+    let a = s .args in
+    let t = tableOf (a .a) (a .f) (a .kind .now) (a .left .now) (a .right .now) (a .rules .now) (a .first .now) (a .second .now) (a .third .now) in
+    let ok = passesAll t (a .plan .0) (a .list .now) in
+    (costs-more t (a .plan .0) _ (a .best) ok (s .pre .1) (c .before .before .broken .ensures .0) (sym (c .before .improves .ensures) ∙ c .if1 .left), s .pre .1)
+
+pub with-plan-spec : {M : Type 1} → statement M
+with-plan-spec =
+    tie.close
+    (tie.spec broken-requires improves-requires passes-all-requires returns returns-2 returns-3)

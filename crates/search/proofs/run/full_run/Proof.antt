@@ -1,0 +1,107 @@
+use Prim.Native.Nat.{_-_, _<_}
+use native.Mathlib.Omega.{arith}
+use mathlib.Core.Path.{refl, sym, subst}
+use lib.ListN.{length, take, length-set}
+use lib.Seq.{length-take-le}
+use borrow.Author.Needs.{needs}
+use Rattle.search.specs.Table.{tableOf}
+use Rattle.search.specs.laws.Steps.{Stepped, Kept, kept-none, kept-more, Onward, on-start, on-more, on-done, on-full}
+use Rattle.search.proofs.run.full_run.Statement.{statement}
+use Rattle.search.proofs.run.full_run.Tie as tie
+use Rattle.search.proofs.run.full_run.Reads as reads
+use Rattle.search.proofs.run.full_run.Lts as lts
+use Rattle.search.proofs.run.round.Reads as round-reads
+
+abbrev Inv-loop : tie.InvT-loop
+Inv-loop kind left right rules first second third a f list₀ n₀ list n = Kept list₀ list n × Onward (tableOf a f kind left right rules first second third) list₀ list n
+
+abbrev μ-loop : tie.MeasureT-loop
+μ-loop kind left right rules first second third a f list₀ n₀ list n = length list - n
+
+loop-holds : tie.Need-loop-holds Inv-loop μ-loop
+loop-holds c =
+    let a = c .before .before .before .before .before .before .before .before .args in
+    let t = tableOf (a .a) (a .f) (a .kind .now) (a .left .now) (a .right .now) (a .rules .now) (a .first .now) (a .second .now) (a .third .now) in
+    (kept-none (a .list .now), on-start t (a .list .now))
+
+slice-reshare-prefix-round : tie.Need-slice-reshare-prefix-round Inv-loop μ-loop
+slice-reshare-prefix-round c = omega (arith, c .loop .inv .0 .fits)
+
+slice-aggregate-round : tie.Need-slice-aggregate-round Inv-loop μ-loop
+slice-aggregate-round c = sym (length-take-le _ _ (c .before .loop .inv .0 .fits))
+
+round-requires : tie.Need-round-requires Inv-loop μ-loop
+round-requires c κs = search needs
+
+enum-known-step : tie.Need-enum-known-step Inv-loop μ-loop
+enum-known-step c = search needs
+
+same-length : tie.Need-same-length Inv-loop μ-loop
+same-length c = c .before .before .before .before .before .loop .inv .0 .same
+
+returns : tie.Need-returns Inv-loop μ-loop
+returns c =
+    let a = c .before .before .before .before .before .before .before .before .before .before .before .before .before .before .args in
+    let t = tableOf (a .a) (a .f) (a .kind .now) (a .left .now) (a .right .now) (a .rules .now) (a .first .now) (a .second .now) (a .third .now) in
+    let s = c .before .before .before .before .before .loop in
+    let e = c .before .step .given .1 in
+    on-done t (a .list .now) (s .list) (s .n) (s .inv .0) (s .inv .1) _ _ refl refl refl (subst (Stepped t (take (s .n) (s .list))) e (c .before .before .before .round .ensures))
+
+enum-known-step-2 : tie.Need-enum-known-step-2 Inv-loop μ-loop
+enum-known-step-2 c = search needs
+
+same-length-2 : tie.Need-same-length-2 Inv-loop μ-loop
+same-length-2 c = c .before .before .before .before .before .before .loop .inv .0 .same
+
+returns-2 : tie.Need-returns-2 Inv-loop μ-loop
+returns-2 c =
+    let a = c .before .before .before .before .before .before .before .before .before .before .before .before .before .before .before .args in
+    let t = tableOf (a .a) (a .f) (a .kind .now) (a .left .now) (a .right .now) (a .rules .now) (a .first .now) (a .second .now) (a .third .now) in
+    let s = c .before .before .before .before .before .before .loop in
+    let e = c .before .before .step2 .given .1 in
+    on-full t (a .list .now) (s .list) (s .n) (s .inv .0) (s .inv .1) _ _ refl refl refl (subst (Stepped t (take (s .n) (s .list))) e (c .before .before .before .before .round .ensures)) (c .if1 .taken)
+
+mul-list : tie.Need-mul-list Inv-loop μ-loop
+mul-list c = search needs
+
+slice-write-list : tie.Need-slice-write-list Inv-loop μ-loop
+slice-write-list c = omega (arith, c .before .before .before .before .before .before .loop .inv .0 .fits)
+
+add-n : tie.Need-add-n Inv-loop μ-loop
+add-n c = search needs
+
+loop-less : tie.Need-loop-less Inv-loop μ-loop
+loop-less c = simp length-set (omega (arith, c .before .before .before .before .before .before .loop .inv .0 .fits))
+
+loop-again : tie.Need-loop-again Inv-loop μ-loop
+loop-again c =
+    let a = c .before .before .before .before .before .before .before .before .before .before .before .before .before .before .before .args in
+    let t = tableOf (a .a) (a .f) (a .kind .now) (a .left .now) (a .right .now) (a .rules .now) (a .first .now) (a .second .now) (a .third .now) in
+    let s = c .before .before .before .before .before .before .loop in
+    let e = c .before .before .step2 .given .1 in
+    let h : s .n < length (s .list) = omega (arith, s .inv .0 .fits) in (
+      kept-more (a .list .now) (s .list) (s .n) _ h (s .inv .0),
+      on-more t (a .list .now) (s .list) (s .n) (s .inv .0) (s .inv .1) _ (subst (Stepped t (take (s .n) (s .list))) e (c .before .before .before .before .round .ensures)) h,
+    )
+
+pub full-run-spec : {M : Type 1} → statement M
+full-run-spec =
+    tie.close
+    (tie.spec
+    Inv-loop
+    μ-loop
+    loop-holds
+    slice-reshare-prefix-round
+    slice-aggregate-round
+    round-requires
+    enum-known-step
+    same-length
+    returns
+    enum-known-step-2
+    same-length-2
+    returns-2
+    mul-list
+    slice-write-list
+    add-n
+    loop-less
+    loop-again)

@@ -1,0 +1,22 @@
+use Rattle.circuit.specs.Lent.{wishesOf}
+use borrow.Author.Needs.{needs}
+use Rattle.search.proofs.run.round.Statement.{statement}
+use Rattle.search.proofs.run.round.Tie as tie
+use Rattle.search.proofs.run.round.Reads as reads
+use Rattle.search.proofs.run.round.Lts as lts
+use Rattle.search.proofs.best.best_plan.Reads as best-plan-reads
+use Rattle.search.proofs.run.judge.Reads as judge-reads
+
+best-plan-requires : tie.Need-best-plan-requires
+best-plan-requires c κs = search needs
+
+judge-requires : tie.Need-judge-requires
+judge-requires c κs = search needs
+
+returns : tie.Need-returns
+returns c =
+    let a = c .before .before .before .before .before .before .before .before .before .before .args in
+    c .judge .ensures (a .list .now) (wishesOf (a .first .now) (a .second .now) (a .third .now)) (c .before .best-plan .ensures .0) (c .before .best-plan .ensures .1)
+
+pub round-spec : {M : Type 1} → statement M
+round-spec = tie.close (tie.spec best-plan-requires judge-requires returns)

@@ -1,0 +1,50 @@
+-- The table of plans and patterns that lent columns make, and what the answers of the search say. Assumes nothing.
+use Prim.Native.Nat.{ℕ, _+_, _^_, _≤_}
+use mathlib.Core.Bool.{Bool, cond}
+use mathlib.Core.List.{List, []}
+use mathlib.Core.Option.{Option, none, some}
+use mathlib.Core.Path.{_≡_}
+use lib.ListN.{length, take}
+use Rattle.scope.specs.Sheet.{Clause, Sheet, All, Among}
+use Rattle.scope.specs.Meaning.{passes, switchOn, broken}
+use Rattle.scope.specs.Rule.{Task, Verdict, noRoom, verdictOf, run, rule}
+use Rattle.scope.specs.Jobs.{over}
+use Rattle.circuit.specs.Lent.{Gates, Clauses, circuit, wishesOf}
+use Rattle.search.specs.declared.best.Best.{Best}
+use Rattle.search.specs.declared.best.Best.the-variants.{Nothing, At}
+use Rattle.search.specs.declared.run.Run.{Run}
+
+-- The plans and patterns of a sheet, where a plan costs what it breaks of these wishes.
+abbrev pub table : Sheet → List Clause → Task
+table t ws = record { passes = passes t; cost = λ p. broken (switchOn t p) ws; plans = 2 ^ t .switches; patterns = 2 ^ t .faults }
+
+-- That of lent columns; the wishes are the sheet's, repeats left out.
+abbrev pub tableOf : (a f : ℕ) (kind left right rules first second third : List ℕ) → Task
+tableOf a f kind left right rules first second third = table (circuit a f kind left right rules) (wishesOf first second third)
+
+-- columns that a sheet may have
+pub record Lent (a f : ℕ) (kind left right rules first second third : List ℕ) : Type 0 where
+  pub gates : Gates a f kind left right
+  pub points : All (Among (a + f + length kind)) rules
+  pub wishes : Clauses a first second third
+
+-- ---- the best plan, with its cost
+
+abbrev pub bestOf : Best → Option ℕ
+bestOf Nothing = none
+bestOf (At p c) = some (p .0)
+
+abbrev pub Priced : Task → Best → Type 0
+Priced t Nothing = Unit {0}
+Priced t (At p c) = c ≡ t .cost (p .0)
+
+-- ---- a full run over a lent list: its verdict, and the list afterwards
+
+abbrev pub verdictFrom : Run → Verdict
+verdictFrom r = cond (r .full) noRoom (verdictOf (bestOf (r .best)))
+
+pub record Ran (t : Task) (lent : List ℕ) (r : Run) (after : List ℕ) : Type 0 where
+  pub fits : r .length ≤ length lent
+  pub ruled : rule t (length lent) [] ≡ run (verdictFrom r) (take (r .length) after)
+  pub list : after ≡ over (take (r .length) after) lent
+  pub priced : Priced t (r .best)
