@@ -1,0 +1,2 @@
+// The reader of planning sheets.
+mod field;
