@@ -1,2 +1,3 @@
 // The reader of planning sheets.
 mod field;
+mod line;
