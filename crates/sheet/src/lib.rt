@@ -1,3 +1,6 @@
 // The reader of planning sheets.
 mod field;
 mod line;
+mod tables;
+
+pub use tables::Tables;
