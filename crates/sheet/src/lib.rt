@@ -2,5 +2,6 @@
 mod field;
 mod line;
 mod tables;
+mod tests;
 
 pub use tables::Tables;
