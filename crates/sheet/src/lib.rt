@@ -1,4 +1,5 @@
 // The reader of planning sheets.
+mod causes;
 mod field;
 mod line;
 mod tables;

@@ -5,8 +5,8 @@ use native.Mathlib.Omega.{arith}
 use mathlib.Core.Bool.{Bool, true, false, cond, _&&_}
 use mathlib.Core.List.{List, _∷_, map}
 use mathlib.Core.Path.{_≡_, sym, _∙_}
-use lib.ListN.{length, getD, drop, length-map, drop-of-length-le, List·getD-map}
-use lib.Seq.{length-take-le, drop-cons, getD-take}
+use lib.ListN.{length, getD, take, drop, length-map, drop-of-length-le, List·getD-map}
+use lib.Seq.{length-take-le, drop-cons, getD-take, take-take}
 use Rattle.scope.specs.Sheet as scope
 use Rattle.scope.specs.Sheet.{plus}
 use Rattle.scope.specs.Reading.{is, literal, zeros, literals, at}
@@ -21,6 +21,10 @@ at-numbers n i xs h = sym (getD-take n (map numberFrom xs) i (plus 0) h ∙ List
 pub length-numbers : (n : ℕ) (xs : List Number) → n ≤ length xs → length (numbersFrom n xs) ≡ n
 unfolding numbersFrom
 length-numbers n xs h = length-take-le n (map numberFrom xs) (omega (arith, length-map xs numberFrom))
+
+pub front-numbers : (m n : ℕ) (xs : List Number) → m ≤ n → take m (numbersFrom n xs) ≡ numbersFrom m xs
+unfolding numbersFrom
+front-numbers m n xs h = take-take m n (map numberFrom xs) h
 
 module _ (n i : ℕ) (xs : List Number) (l : n ≤ length xs) where
   abbrev ys : List scope.Number
