@@ -1,14 +1,16 @@
 -- What the steps over the lines give: in no promise of an exported call. Assumes nothing.
-use Prim.Native.Nat.{ℕ, _≤_}
-use mathlib.Core.Bool.{Bool, cond}
+use Prim.Native.Nat.{ℕ, _≤_, _<_}
+use mathlib.Core.Bool.{Bool, true, cond}
+use mathlib.Core.Option.{Option, none, some}
 use mathlib.Core.List.{List}
 use mathlib.Core.Logic.{_≢_}
 use mathlib.Core.Path.{_≡_}
-use lib.ListN.{length}
-use Rattle.scope.specs.Sheet.{Sheet, mostSwitches, mostFaults, mostGates}
-use Rattle.scope.specs.Reading.{Row}
+use lib.ListN.{length, take}
+use Rattle.scope.specs.Sheet.{Number, Sheet, Letter, H, N, A, O, R, W, Z, Line, mostSwitches, mostFaults, mostGates, mostRules, mostWishes, mostLiterals}
+use Rattle.scope.specs.Reading.{literals, Row}
 use Rattle.scope.specs.Causes.{Met, First}
 use Rattle.sheet.specs.declared.causes.Counts.{Counts}
+use Rattle.sheet.specs.declared.tables.Tables.{Tables}
 
 -- the counts of a sheet
 pub record Counted (t : Sheet) (c : Counts) : Type 0 where
@@ -31,3 +33,17 @@ rowOf number met later = cond met later number
 pub record Fault (rs : List Row) (r : ℕ) : Type 0 where
   pub met : r ≡ 0 → Met rs
   pub first : r ≢ 0 → First r rs
+
+-- what the tables must have room for to take a line
+abbrev pub RoomFor : Tables → Letter → List Number → Type 0
+RoomFor u H xs = Unit {0}
+RoomFor u N xs = u .gates < mostGates
+RoomFor u A xs = u .gates < mostGates
+RoomFor u O xs = u .gates < mostGates
+RoomFor u R xs = u .rules < mostRules
+RoomFor u W xs = (u .wishes < mostWishes) × (u .switches ≤ mostSwitches) × (literals (u .switches) (take mostLiterals xs) ≡ true)
+RoomFor u Z xs = Unit {0}
+
+abbrev pub Room : Tables → Option Line → Type 0
+Room u none = Unit {0}
+Room u (some l) = RoomFor u (l .letter) (l .fields)

@@ -1,0 +1,1 @@
+-- One line of a sheet: what it is tested against, what it finds room for, and what its test says. Assumes nothing.

@@ -1,0 +1,92 @@
+use Rattle.sheet.proofs.reader.read_lines.Statement.{statement}
+use Rattle.sheet.proofs.reader.read_lines.Tie as tie
+use Rattle.sheet.proofs.reader.read_lines.Reads as reads
+use Rattle.sheet.proofs.reader.read_lines.Lts as lts
+use Rattle.sheet.proofs.causes.line_fault.Reads as line-fault-reads
+use Rattle.sheet.proofs.line.line_at.Reads as line-at-reads
+use Rattle.sheet.proofs.reader.with_line.Reads as with-line-reads
+use Rattle.sheet.proofs.tables.refused.Reads as refused-reads
+use Rattle.sheet.proofs.tables.start.Reads as start-reads
+
+abbrev Inv-loop : tie.InvT-loop
+Inv-loop s n size count u₀ k₀ u k = ?
+
+abbrev μ-loop : tie.MeasureT-loop
+μ-loop s n size count u₀ k₀ u k = ?
+
+-- src/reader.rt:71:9
+start-requires : tie.Need-start-requires Inv-loop μ-loop
+start-requires c κs = ?
+
+-- src/reader.rt:73:5
+loop-holds : tie.Need-loop-holds Inv-loop μ-loop
+loop-holds c = ?
+
+-- src/reader.rt:74:28
+mul-line-at : tie.Need-mul-line-at Inv-loop μ-loop
+mul-line-at c = ?
+
+-- src/reader.rt:74:13
+line-at-requires : tie.Need-line-at-requires Inv-loop μ-loop
+line-at-requires c κs = ?
+
+-- src/reader.rt:82:41
+add-line-fault : tie.Need-add-line-fault Inv-loop μ-loop
+add-line-fault c = ?
+
+-- src/reader.rt:82:13
+line-fault-requires : tie.Need-line-fault-requires Inv-loop μ-loop
+line-fault-requires c κs = ?
+
+-- src/reader.rt:84:35
+add-refused : tie.Need-add-refused Inv-loop μ-loop
+add-refused c = ?
+
+-- src/reader.rt:84:13
+refused-requires : tie.Need-refused-requires Inv-loop μ-loop
+refused-requires c κs = ?
+
+-- src/reader.rt:84:13
+returns : tie.Need-returns Inv-loop μ-loop
+returns c = ?
+
+-- src/reader.rt:88:9
+with-line-requires : tie.Need-with-line-requires Inv-loop μ-loop
+with-line-requires c κs = ?
+
+-- src/reader.rt:89:9
+add-k : tie.Need-add-k Inv-loop μ-loop
+add-k c = ?
+
+-- src/reader.rt:73:5
+loop-less : tie.Need-loop-less Inv-loop μ-loop
+loop-less c = ?
+
+-- src/reader.rt:73:5
+loop-again : tie.Need-loop-again Inv-loop μ-loop
+loop-again c = ?
+
+-- src/reader.rt:67:1
+returns-2 : tie.Need-returns-2 Inv-loop μ-loop
+returns-2 c = ?
+
+pub read-lines-spec : {M : Type 1} → statement M
+read-lines-spec =
+    tie.close
+    (tie.spec
+    Inv-loop
+    μ-loop
+    start-requires
+    loop-holds
+    mul-line-at
+    line-at-requires
+    add-line-fault
+    line-fault-requires
+    add-refused
+    refused-requires
+    returns
+    with-line-requires
+    add-k
+    loop-less
+    loop-again
+    returns-2)
