@@ -7,7 +7,7 @@ use mathlib.Core.Logic.{_≢_}
 use mathlib.Core.Path.{_≡_}
 use lib.ListN.{length, take}
 use Rattle.scope.specs.Sheet.{Number, Sheet, Letter, H, N, A, O, R, W, Z, Line, mostSwitches, mostFaults, mostGates, mostRules, mostWishes, mostLiterals}
-use Rattle.scope.specs.Reading.{literals, Row}
+use Rattle.scope.specs.Reading.{literals, Row, lineSize, lineCount, lengthOk}
 use Rattle.scope.specs.Causes.{Met, First}
 use Rattle.sheet.specs.declared.causes.Counts.{Counts}
 use Rattle.sheet.specs.declared.tables.Tables.{Tables}
@@ -47,3 +47,11 @@ RoomFor u Z xs = Unit {0}
 abbrev pub Room : Tables → Option Line → Type 0
 Room u none = Unit {0}
 Room u (some l) = RoomFor u (l .letter) (l .fields)
+
+-- s has so many lines of so many bytes, each of n fields
+pub record Sized (n : ℕ) (s : List ℕ) (bytes lines : ℕ) : Type 0 where
+  pub least : 3 ≤ n
+  pub most : n ≤ 4
+  pub size : bytes ≡ lineSize n
+  pub count : lines ≡ lineCount n s
+  pub right : lengthOk n (length s) ≡ true

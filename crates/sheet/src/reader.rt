@@ -3,13 +3,12 @@ ghost use mathlib.Core.Path.{_≡_};
 ghost use mathlib.Core.Bool.{true};
 ghost use mathlib.Core.Option.{some};
 ghost use Prim.Native.Nat.{_≤_, _<_};
-ghost use lib.ListN.{length};
 ghost use Rattle.scope.specs.Sheet.{Sheet, mostSwitches, mostWishes, mostLiterals, fieldCount};
-ghost use Rattle.scope.specs.Reading.{literals, clause, joined, addWish, add, lineCount, lineSize, lengthOk, read};
+ghost use Rattle.scope.specs.Reading.{literals, clause, joined, addWish, add, read};
 ghost use Rattle.sheet.specs.Tables.{literalCode, filled, outcome};
 ghost use Rattle.sheet.specs.Columns.{numberFrom};
 ghost use Rattle.sheet.specs.Lines.{letterFrom, numbersFrom};
-ghost use Rattle.sheet.specs.Steps.{Room};
+ghost use Rattle.sheet.specs.Steps.{Room, Sized};
 
 use crate::causes::{Counts, line_fault};
 use crate::field::{FIELD_SIZE, Number};
@@ -65,7 +64,7 @@ fn with_line(u: Tables, letter: Letter, xs: [Number; MOST_FIELDS], n: usize) -> 
 
 // The lines of a sheet whose length is right.
 fn read_lines(s: &[u8], n: usize, size: usize, count: usize) -> Tables
-    requires { ⌜ (3 ≤ n) × (n ≤ 4) × (size ≡ lineSize n) × (count ≡ lineCount n (now s)) × (lengthOk n (length (now s)) ≡ true) ⌝ }
+    requires { ⌜ Sized n (now s) size count ⌝ }
     ensures { λ r. ⌜ r ≡ outcome (read n (now (s .entry))) ⌝ }
 {
     let mut u = start(0, 0);
