@@ -1,10 +1,10 @@
 // The reader of planning sheets.
+mod causes;
 mod field;
 mod line;
+mod reader;
 mod tables;
 mod tests;
-mod causes;
-mod reader;
 
 pub use reader::read;
 pub use tables::Tables;

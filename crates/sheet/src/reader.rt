@@ -9,12 +9,28 @@ ghost use Rattle.sheet.specs.Tables.{literalCode, filled, outcome};
 ghost use Rattle.sheet.specs.Columns.{numberFrom};
 ghost use Rattle.sheet.specs.Lines.{letterFrom, numbersFrom};
 ghost use Rattle.sheet.specs.Steps.{Room, Sized};
-
-use crate::causes::{Counts, line_fault};
-use crate::field::{FIELD_SIZE, Number};
-use crate::line::{AND, Letter, MOST_FIELDS, NOT, OR, line_at};
-use crate::tables::{MOST_GATES, MOST_RULES, MOST_WISHES, Tables, refused, start, with_gate, with_rule, with_wish};
-use crate::tests::{MOST_LITERALS, both, nth};
+use crate::causes::Counts;
+use crate::causes::line_fault;
+use crate::field::FIELD_SIZE;
+use crate::field::Number;
+use crate::line::AND;
+use crate::line::Letter;
+use crate::line::MOST_FIELDS;
+use crate::line::NOT;
+use crate::line::OR;
+use crate::line::line_at;
+use crate::tables::MOST_GATES;
+use crate::tables::MOST_RULES;
+use crate::tables::MOST_WISHES;
+use crate::tables::Tables;
+use crate::tables::refused;
+use crate::tables::start;
+use crate::tables::with_gate;
+use crate::tables::with_rule;
+use crate::tables::with_wish;
+use crate::tests::MOST_LITERALS;
+use crate::tests::both;
+use crate::tests::nth;
 
 // the fields of a line
 const FIELD_COUNT: usize = 3;

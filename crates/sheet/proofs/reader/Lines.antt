@@ -1,20 +1,20 @@
 -- One turn of the loop over the lines. Assumes nothing.
-use Prim.Native.Nat.{ℕ, zero, suc, _+_, _*_, _/_, _≤_, _<_}
+use Prim.Native.Nat.{ℕ, suc, _+_, _*_, _%_, _≤_, _<_}
 use native.Mathlib.Nat.{suc-mul, mul-le-mul-right, div-add-mod'}
 use native.Mathlib.Numerals.{add-one}
 use native.Mathlib.Omega.{arith}
 use mathlib.Core.Bool.{Bool, true, false, _&&_}
-use mathlib.Core.List.{List, [], _∷_}
+use mathlib.Core.List.{List}
 use mathlib.Core.Logic.{_≢_}
 use mathlib.Core.Option.{Option, none, some}
-use mathlib.Core.Path.{_≡_, refl, sym, ap, subst, _∙_}
-use lib.Dec.{eqb, ltb}
+use mathlib.Core.Path.{_≡_, refl, sym, ap, _∙_}
+use lib.Dec.{eqb, leb, ltb}
 use lib.ListN.{length, take, drop}
 use borrow.Author.Tests.{ltb-true}
 use Rattle.scope.specs.Sheet.{Number, Sheet, Letter, H, N, A, O, R, W, Z, mostGates, mostRules, mostWishes, mostLiterals}
 use Rattle.scope.specs.Sheet as scope
-use Rattle.scope.specs.Reading.{literals, zeros, when, joined, rows, tests, add, accepted, refused, lengthOk, lineOf, lineSize, lineCount, lineAt, testsAt, read}
-use Rattle.scope.specs.Causes.{Met, before, Passed, line}
+use Rattle.scope.specs.Reading.{literals, zeros, when, joined, rows, tests, add, lengthOk, lineOf, lineSize, lineCount, mostBytes, lineAt, testsAt, read}
+use Rattle.scope.specs.Causes.{Met, before, Passed, size as wrong-size, line}
 use Rattle.scope.specs.laws.Tests.{clash, both}
 use Rattle.scope.specs.laws.Refusals.{up-to, cause-refuses, no-cause-accepts}
 use Rattle.sheet.specs.Tables.{tables, filled, refusal, outcome}
@@ -123,3 +123,10 @@ pub taken-in : (n k size count : ℕ) (s : List ℕ) (u : Tables) → Sized n s 
 taken-in n k size count s u z b h =
     let e : k ≡ lineCount n s = omega (arith, h .within, z .count) in
     h .is ∙ rw (no-cause-accepts n s record { size = z .right; lines = λ j g. h .passed j (omega arith) }) (ap (λ j. filled (before n s j)) e)
+
+-- the test of the length as the code makes it
+pub length-told : (n m : ℕ) {whole right : Bool} → right ≡ (ltb 0 m && whole) → whole ≡ (leb m (mostBytes n) && eqb (m % lineSize n) 0) → right ≡ lengthOk n m
+length-told n m e f = e ∙ ap (λ w. ltb 0 m && w) f
+
+pub wrong-length : (n : ℕ) (s : List ℕ) → lengthOk n (length s) ≡ false → refusal 1 0 ≡ outcome (read n s)
+wrong-length n s e = rw (cause-refuses n s (wrong-size e))

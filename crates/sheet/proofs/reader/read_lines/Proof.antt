@@ -1,21 +1,11 @@
-use lib.ListN.{length}
-use denote.Ref.{now}
 use Rattle.scope.specs.Causes.{before}
-use Rattle.scope.specs.Reading.{lineSize, lineCount}
 use Rattle.sheet.proofs.reader.Lines.{Reached, begun, line-fits, few, found-room, reached-next, turned-down, taken-in}
-use mathlib.Core.Path.{_≡_, refl, sym, ap, _∙_}
-use Prim.Native.Nat.{_+_, _-_, _*_, _≤_, _<_}
+use mathlib.Core.Path.{_∙_}
+use Prim.Native.Nat.{_-_}
 use native.Mathlib.Omega.{arith}
 use borrow.Author.Needs.{needs}
 use Rattle.sheet.proofs.reader.read_lines.Statement.{statement}
 use Rattle.sheet.proofs.reader.read_lines.Tie as tie
-use Rattle.sheet.proofs.reader.read_lines.Reads as reads
-use Rattle.sheet.proofs.reader.read_lines.Lts as lts
-use Rattle.sheet.proofs.causes.line_fault.Reads as line-fault-reads
-use Rattle.sheet.proofs.line.line_at.Reads as line-at-reads
-use Rattle.sheet.proofs.reader.with_line.Reads as with-line-reads
-use Rattle.sheet.proofs.tables.refused.Reads as refused-reads
-use Rattle.sheet.proofs.tables.start.Reads as start-reads
 
 abbrev Inv-loop : tie.InvT-loop
 Inv-loop s n size count u₀ k₀ u k = Reached n s k u
@@ -23,60 +13,46 @@ Inv-loop s n size count u₀ k₀ u k = Reached n s k u
 abbrev μ-loop : tie.MeasureT-loop
 μ-loop s n size count u₀ k₀ u k = count - k
 
--- src/reader.rt:71:9
 start-requires : tie.Need-start-requires Inv-loop μ-loop
 start-requires c κs = search needs
 
--- src/reader.rt:73:5
 loop-holds : tie.Need-loop-holds Inv-loop μ-loop
 unfolding before
 loop-holds c = begun _ _ _ (c .start .ensures)
 
--- src/reader.rt:74:28
 mul-line-at : tie.Need-mul-line-at Inv-loop μ-loop
 mul-line-at c = omega (arith, line-fits _ _ _ _ _ (c .before .before .before .before .pre) (c .loop-test .taken))
 
--- src/reader.rt:74:13
 line-at-requires : tie.Need-line-at-requires Inv-loop μ-loop
 line-at-requires c κs = (c .before .before .before .before .pre .most, line-fits _ _ _ _ _ (c .before .before .before .before .pre) (c .loop-test .taken))
 
--- src/reader.rt:82:41
 add-line-fault : tie.Need-add-line-fault Inv-loop μ-loop
 add-line-fault c = search needs
 
--- src/reader.rt:82:13
 line-fault-requires : tie.Need-line-fault-requires Inv-loop μ-loop
 line-fault-requires c κs = (few _ _ _ _ (c .before .before .loop .inv), c .before .before .before .before .before .pre .least, c .before .before .before .before .before .pre .most)
 
--- src/reader.rt:84:35
 add-refused : tie.Need-add-refused Inv-loop μ-loop
 add-refused c = search needs
 
--- src/reader.rt:84:13
 refused-requires : tie.Need-refused-requires Inv-loop μ-loop
 refused-requires c κs = search needs
 
--- src/reader.rt:84:13
 returns : tie.Need-returns Inv-loop μ-loop
 returns c = c .refused .ensures ∙ turned-down _ _ _ _ _ _ _ _ (c .before .before .before .before .before .before .before .before .pre) (c .before .before .before .before .before .loop .inv) (c .before .before .before .before .loop-test .taken) (c .before .before .before .line-at .ensures) (c .before .before .line-fault .ensures) (c .before .if1 .taken)
 
--- src/reader.rt:88:9
 with-line-requires : tie.Need-with-line-requires Inv-loop μ-loop
 with-line-requires c κs = (found-room _ _ _ _ _ _ _ _ (c .before .before .before .before .before .before .before .before .pre) (c .before .before .before .before .before .loop .inv) (c .before .before .before .before .loop-test .taken) (c .before .before .before .line-at .ensures) (c .before .before .line-fault .ensures) (c .before .if1 .left), c .before .before .before .before .before .before .before .before .pre .least, c .before .before .before .before .before .before .before .before .pre .most)
 
--- src/reader.rt:89:9
 add-k : tie.Need-add-k Inv-loop μ-loop
 add-k c = search needs
 
--- src/reader.rt:73:5
 loop-less : tie.Need-loop-less Inv-loop μ-loop
 loop-less c = search needs
 
--- src/reader.rt:73:5
 loop-again : tie.Need-loop-again Inv-loop μ-loop
 loop-again c = reached-next _ _ _ _ _ _ _ _ (c .before .before .before .before .before .before .before .before .before .pre) (c .before .before .before .before .before .before .loop .inv) (c .before .before .before .before .before .loop-test .taken) (c .before .before .before .before .line-at .ensures) (c .before .before .before .line-fault .ensures) _ (c .before .before .if1 .left) (c .with-line .ensures)
 
--- src/reader.rt:67:1
 returns-2 : tie.Need-returns-2 Inv-loop μ-loop
 returns-2 c = taken-in _ _ _ _ _ _ (c .before .before .before .before .pre) (c .loop-test .left) (c .before .loop .inv)
 

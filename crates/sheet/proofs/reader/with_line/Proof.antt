@@ -1,119 +1,88 @@
 use Rattle.sheet.specs.Tables.{filled}
-use Rattle.scope.specs.Reading.{clause, started, addGate, addRule, addWish, make}
+use Rattle.scope.specs.Reading.{clause, started, addRule, addWish, make}
 use Rattle.scope.specs.Sheet.{Gate, mostLiterals}
 use mathlib.Core.Path.{refl, sym, ap, ap₂, _∙_}
 use Rattle.sheet.proofs.tests.Fields.{front-numbers}
 use borrow.Author.Needs.{needs}
 use Rattle.sheet.proofs.reader.with_line.Statement.{statement}
 use Rattle.sheet.proofs.reader.with_line.Tie as tie
-use Rattle.sheet.proofs.reader.with_line.Reads as reads
-use Rattle.sheet.proofs.reader.with_line.Lts as lts
-use Rattle.sheet.proofs.reader.with_literals.Reads as with-literals-reads
-use Rattle.sheet.proofs.tables.start.Reads as start-reads
-use Rattle.sheet.proofs.tables.with_gate.Reads as with-gate-reads
-use Rattle.sheet.proofs.tables.with_rule.Reads as with-rule-reads
-use Rattle.sheet.proofs.tests.nth.Reads as nth-reads
 
--- src/reader.rt:52:9
 nth-requires : tie.Need-nth-requires
 nth-requires c κs = search needs
 
--- src/reader.rt:53:9
 nth-requires-2 : tie.Need-nth-requires-2
 nth-requires-2 c κs = search needs
 
--- src/reader.rt:55:25
 enum-told : tie.Need-enum-told
 enum-told c = search needs
 
--- src/reader.rt:55:25
 start-requires : tie.Need-start-requires
 start-requires c κs = search needs
 
--- src/reader.rt:56:24
 enum-told-2 : tie.Need-enum-told-2
 enum-told-2 c = search needs
 
--- src/reader.rt:56:24
 with-gate-requires : tie.Need-with-gate-requires
 with-gate-requires c κs = rw (c .enum-told2 .given .1) at (c .before .before .before .before .pre .0)
 
--- src/reader.rt:57:24
 enum-told-3 : tie.Need-enum-told-3
 enum-told-3 c = search needs
 
--- src/reader.rt:57:24
 with-gate-requires-2 : tie.Need-with-gate-requires-2
 with-gate-requires-2 c κs = rw (c .enum-told3 .given .1) at (c .before .before .before .before .pre .0)
 
--- src/reader.rt:58:23
 enum-told-4 : tie.Need-enum-told-4
 enum-told-4 c = search needs
 
--- src/reader.rt:58:23
 with-gate-requires-3 : tie.Need-with-gate-requires-3
 with-gate-requires-3 c κs = rw (c .enum-told4 .given .1) at (c .before .before .before .before .pre .0)
 
--- src/reader.rt:59:25
 enum-told-5 : tie.Need-enum-told-5
 enum-told-5 c = search needs
 
--- src/reader.rt:59:25
 with-rule-requires : tie.Need-with-rule-requires
 with-rule-requires c κs = rw (c .enum-told5 .given .1) at (c .before .before .before .before .pre .0)
 
--- src/reader.rt:60:25
 enum-told-6 : tie.Need-enum-told-6
 enum-told-6 c = search needs
 
--- src/reader.rt:60:25
 with-literals-requires : tie.Need-with-literals-requires
 with-literals-requires c κs = let p = c .before .before .before .before .pre in let r = rw (c .enum-told6 .given .1) at (p .0) in (r .0, r .1, rw (front-numbers mostLiterals _ _ (p .1)) at (r .2))
 
--- src/reader.rt:61:24
 enum-told-7 : tie.Need-enum-told-7
 enum-told-7 c = search needs
 
--- src/reader.rt:62:28
 enum-told-8 : tie.Need-enum-told-8
 enum-told-8 c = search needs
 
--- src/reader.rt:48:1
 returns : tie.Need-returns
 unfolding make
 returns c = λ t e. rw (c .before .enum-told .given .1) (c .start .ensures ∙ ap₂ (λ a f. filled (started a f)) (ap (λ v. v .size) (c .before .before .before .before .nth .ensures)) (ap (λ v. v .size) (c .before .before .before .nth2 .ensures)))
 
--- src/reader.rt:48:1
 returns-2 : tie.Need-returns-2
 unfolding make
 returns-2 c = λ t e. rw (c .before .enum-told2 .given .1) (c .with-gate .ensures t (Gate.not _) e refl (ap (λ v. v .size) (c .before .before .before .before .nth .ensures)) refl)
 
--- src/reader.rt:48:1
 returns-3 : tie.Need-returns-3
 unfolding make
 returns-3 c = λ t e. rw (c .before .enum-told3 .given .1) (c .with-gate2 .ensures t (Gate.and _ _) e refl (ap (λ v. v .size) (c .before .before .before .before .nth .ensures)) (ap (λ v. v .size) (c .before .before .before .nth2 .ensures)))
 
--- src/reader.rt:48:1
 returns-4 : tie.Need-returns-4
 unfolding make
 returns-4 c = λ t e. rw (c .before .enum-told4 .given .1) (c .with-gate3 .ensures t (Gate.or _ _) e refl (ap (λ v. v .size) (c .before .before .before .before .nth .ensures)) (ap (λ v. v .size) (c .before .before .before .nth2 .ensures)))
 
--- src/reader.rt:48:1
 returns-5 : tie.Need-returns-5
 unfolding make
 returns-5 c = λ t e. rw (c .before .enum-told5 .given .1) (c .with-rule .ensures t e ∙ ap (λ p. filled (addRule t p)) (ap (λ v. v .size) (c .before .before .before .before .nth .ensures)))
 
--- src/reader.rt:48:1
 returns-6 : tie.Need-returns-6
 unfolding make
 returns-6 c = λ t e. rw (c .before .enum-told6 .given .1) (c .with-literals .ensures t e ∙ ap (λ w. filled (addWish t (clause w))) (sym (front-numbers mostLiterals _ _ (c .before .before .before .before .before .pre .1))))
 
--- src/reader.rt:48:1
 returns-7 : tie.Need-returns-7
 unfolding make
 returns-7 c = λ t e. rw (c .enum-told7 .given .1) e
 
--- src/reader.rt:48:1
 returns-8 : tie.Need-returns-8
 returns-8 c = λ t e. rw (c .enum-told8 .given .1) e
 
