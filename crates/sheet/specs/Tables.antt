@@ -2,7 +2,7 @@
 use Prim.Native.Nat.{ℕ, _+_, _-_, _*_}
 use Prim.Native.Char.{code}
 use mathlib.Core.Bool.{cond}
-use mathlib.Core.List.{List, [], _++_, map}
+use mathlib.Core.List.{List, _++_, map}
 use lib.ListN.{length, getD, replicate}
 use Rattle.scope.specs.Sheet.{Number, plus, Clause, Gate, Sheet, mostGates, mostRules, mostWishes}
 use Rattle.scope.specs.Reading.{started, Read, accepted, refused}

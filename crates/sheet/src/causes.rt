@@ -9,41 +9,36 @@ ghost use Rattle.scope.specs.Sheet.{Sheet, points, H as Head, R as Rule, W as W
 ghost use Rattle.scope.specs.Reading.{gateRows, rows, tests, joined};
 ghost use Rattle.sheet.specs.Lines.{letterFrom, numbersFrom, lineFrom};
 ghost use Rattle.sheet.specs.Steps.{rowOf, Fault, Counted, Few};
+use crate::allowed;
+use crate::allowed::both;
 use crate::field::Number;
 use crate::line::Letter;
 use crate::line::Line;
 use crate::line::MOST_FIELDS;
-use crate::tests::MOST_LITERALS;
-use crate::tests::are_literals;
-use crate::tests::both;
-use crate::tests::is_number;
-use crate::tests::is_up_to;
-use crate::tests::nth;
-use crate::tests::one_point;
-use crate::tests::two_points;
-use crate::tests::unused;
+use crate::line::nth;
+use crate::tables;
 
 const MOST_SWITCHES: u32 = 20;
 
 const MOST_FAULTS: u32 = 16;
 
-const MOST_GATES: u32 = 400;
+const MOST_GATES: u32 = tables::MOST_GATES as u32;
 
-const MOST_RULES: u32 = 64;
+const MOST_RULES: u32 = tables::MOST_RULES as u32;
 
-const MOST_WISHES: u32 = 64;
+const MOST_WISHES: u32 = tables::MOST_WISHES as u32;
 
-// the numbers of the refusals
+// line malformed or letter unknown
 const FORM: u32 = 2;
-
+// letter not allowed at this line
 const ORDER: u32 = 3;
-
+// switches or faults outside their range
 const RANGE: u32 = 4;
-
+// one gate, rule or wish too many
 const LIMIT: u32 = 5;
-
+// point or literal not allowed, unused field not 0, literal after a 0
 const FIELDS: u32 = 6;
-
+// wrong number of lines
 const COUNT: u32 = 7;
 
 pub struct Counts {
@@ -82,10 +77,10 @@ fn head_fault(xs: [Number; MOST_FIELDS], k: usize, last: bool, n: usize) -> u32
     ensures { λ r. ⌜ ((t : Sheet) → Fault (rows t k last Head (numbersFrom n xs)) r) ⌝ }
 {
     let order = both(k == 0, !last);
-    let switches = is_up_to(nth(xs, 0, n), MOST_SWITCHES);
-    let faults = is_up_to(nth(xs, 1, n), MOST_FAULTS);
+    let switches = allowed::is_up_to(nth(xs, 0, n), MOST_SWITCHES);
+    let faults = allowed::is_up_to(nth(xs, 1, n), MOST_FAULTS);
     let range = both(switches, faults);
-    let fields = unused(xs, 2, n);
+    let fields = allowed::unused(xs, 2, n);
     row(ORDER, order, row(RANGE, range, row(FIELDS, fields, 0)))
 }
 
@@ -103,7 +98,7 @@ fn rule_fault(c: Counts, xs: [Number; MOST_FIELDS], k: usize, last: bool, n: usi
 {
     let order = both(between(k, last), c.wishes == 0);
     let limit = c.rules < MOST_RULES;
-    let fields = one_point(xs, all_points(c), n);
+    let fields = allowed::one_point(xs, all_points(c), n);
     row(ORDER, order, row(LIMIT, limit, row(FIELDS, fields, 0)))
 }
 
@@ -113,8 +108,8 @@ fn wish_fault(c: Counts, xs: [Number; MOST_FIELDS], k: usize, last: bool, n: usi
 {
     let order = between(k, last);
     let limit = c.wishes < MOST_WISHES;
-    let literals = are_literals(xs, c.switches);
-    let rest = unused(xs, MOST_LITERALS, n);
+    let literals = allowed::are_literals(xs, c.switches);
+    let rest = allowed::unused(xs, allowed::MOST_LITERALS, n);
     let fields = both(literals, rest);
     row(ORDER, order, row(LIMIT, limit, row(FIELDS, fields, 0)))
 }
@@ -124,8 +119,8 @@ fn end_fault(xs: [Number; MOST_FIELDS], k: usize, last: bool, n: usize) -> u32
     ensures { λ r. ⌜ ((t : Sheet) → Fault (rows t k last End (numbersFrom n xs)) r) ⌝ }
 {
     let order = both(k != 0, last);
-    let fields = unused(xs, 1, n);
-    let count = is_number(nth(xs, 0, n), k);
+    let fields = allowed::unused(xs, 1, n);
+    let count = allowed::is_number(nth(xs, 0, n), k);
     row(ORDER, order, row(FIELDS, fields, row(COUNT, count, 0)))
 }
 
@@ -142,9 +137,9 @@ fn letter_fault(
 {
     match letter {
         Letter::Head => head_fault(xs, k, last, n),
-        Letter::Not => gate_fault(c, one_point(xs, all_points(c), n), k, last),
-        Letter::And => gate_fault(c, two_points(xs, all_points(c), n), k, last),
-        Letter::Or => gate_fault(c, two_points(xs, all_points(c), n), k, last),
+        Letter::Not => gate_fault(c, allowed::one_point(xs, all_points(c), n), k, last),
+        Letter::And => gate_fault(c, allowed::two_points(xs, all_points(c), n), k, last),
+        Letter::Or => gate_fault(c, allowed::two_points(xs, all_points(c), n), k, last),
         Letter::Rule => rule_fault(c, xs, k, last, n),
         Letter::Wish => wish_fault(c, xs, k, last, n),
         Letter::End => end_fault(xs, k, last, n),

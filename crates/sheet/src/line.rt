@@ -1,10 +1,11 @@
 // A line: one letter, its fields, one line feed. The number n of fields is a parameter.
 ghost use mathlib.Core.Path.{_≡_};
-ghost use Prim.Native.Nat.{_+_, _*_, _≤_};
+ghost use Prim.Native.Nat.{_+_, _*_, _≤_, _<_};
 ghost use lib.ListN.{length, take, drop};
 ghost use Rattle.scope.specs.Sheet.{fieldSize};
-ghost use Rattle.scope.specs.Reading.{letterOf, fieldsOf, lineOf, lineSize};
-ghost use Rattle.sheet.specs.Lines.{letterFrom, fieldsFrom, lineFrom};
+ghost use Rattle.scope.specs.Reading.{letterOf, fieldsOf, lineOf, lineSize, at};
+ghost use Rattle.sheet.specs.Lines.{letterFrom, numbersFrom, fieldsFrom, lineFrom};
+ghost use Rattle.sheet.specs.Columns.{numberFrom};
 use crate::field;
 use crate::field::FIELD_SIZE;
 use crate::field::Number;
@@ -108,4 +109,12 @@ pub fn line_at(s: &[u8], at: usize, n: usize) -> Line
         formed: f.formed,
         numbers,
     }
+}
+
+// Field i of n.
+pub fn nth(xs: [Number; MOST_FIELDS], i: usize, n: usize) -> Number
+    requires { ⌜ (i < n) × (n ≤ 4) ⌝ }
+    ensures { λ r. ⌜ numberFrom r ≡ at (numbersFrom n xs) i ⌝ }
+{
+    xs[i]
 }

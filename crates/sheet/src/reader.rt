@@ -9,33 +9,23 @@ ghost use Rattle.sheet.specs.Tables.{literalCode, filled, outcome};
 ghost use Rattle.sheet.specs.Columns.{numberFrom};
 ghost use Rattle.sheet.specs.Lines.{letterFrom, numbersFrom};
 ghost use Rattle.sheet.specs.Steps.{Room, Sized};
+use crate::allowed::MOST_LITERALS;
+use crate::allowed::both;
+use crate::causes;
 use crate::causes::Counts;
-use crate::causes::line_fault;
 use crate::field::FIELD_SIZE;
 use crate::field::Number;
-use crate::line::AND;
+use crate::line;
 use crate::line::Letter;
 use crate::line::MOST_FIELDS;
-use crate::line::NOT;
-use crate::line::OR;
-use crate::line::line_at;
-use crate::tables::MOST_GATES;
-use crate::tables::MOST_RULES;
-use crate::tables::MOST_WISHES;
+use crate::line::nth;
+use crate::tables;
 use crate::tables::Tables;
-use crate::tables::refused;
-use crate::tables::start;
-use crate::tables::with_gate;
-use crate::tables::with_rule;
-use crate::tables::with_wish;
-use crate::tests::MOST_LITERALS;
-use crate::tests::both;
-use crate::tests::nth;
 
 // the fields of a line
 const FIELD_COUNT: usize = 3;
 // H, Z and as many others as there may be
-const MOST_LINES: usize = MOST_GATES + MOST_RULES + MOST_WISHES + 2;
+const MOST_LINES: usize = tables::MOST_GATES + tables::MOST_RULES + tables::MOST_WISHES + 2;
 // the refusal of a sheet's length
 const LENGTH: u32 = 1;
 
@@ -56,7 +46,7 @@ fn with_literals(u: Tables, xs: [Number; MOST_FIELDS]) -> Tables
     let first = literal_code(nth(xs, 0, MOST_LITERALS));
     let second = literal_code(nth(xs, 1, MOST_LITERALS));
     let third = literal_code(nth(xs, 2, MOST_LITERALS));
-    with_wish(u, first, second, third)
+    tables::with_wish(u, first, second, third)
 }
 
 // The tables with one more line, for which there is room.
@@ -67,11 +57,11 @@ fn with_line(u: Tables, letter: Letter, xs: [Number; MOST_FIELDS], n: usize) -> 
     let x = nth(xs, 0, n);
     let y = nth(xs, 1, n);
     match letter {
-        Letter::Head => start(x.size, y.size),
-        Letter::Not => with_gate(u, NOT, x.size, 0),
-        Letter::And => with_gate(u, AND, x.size, y.size),
-        Letter::Or => with_gate(u, OR, x.size, y.size),
-        Letter::Rule => with_rule(u, x.size),
+        Letter::Head => tables::start(x.size, y.size),
+        Letter::Not => tables::with_gate(u, line::NOT, x.size, 0),
+        Letter::And => tables::with_gate(u, line::AND, x.size, y.size),
+        Letter::Or => tables::with_gate(u, line::OR, x.size, y.size),
+        Letter::Rule => tables::with_rule(u, x.size),
         Letter::Wish => with_literals(u, xs),
         Letter::End => u,
         Letter::Unknown => u,
@@ -83,10 +73,10 @@ fn read_lines(s: &[u8], n: usize, size: usize, count: usize) -> Tables
     requires { ⌜ Sized n (now s) size count ⌝ }
     ensures { λ r. ⌜ r ≡ outcome (read n (now (s .entry))) ⌝ }
 {
-    let mut u = start(0, 0);
+    let mut u = tables::start(0, 0);
     let mut k = 0;
     while k < count {
-        let l = line_at(s, k * size, n);
+        let l = line::line_at(s, k * size, n);
         let c = Counts {
             switches: u.switches,
             faults: u.faults,
@@ -94,9 +84,9 @@ fn read_lines(s: &[u8], n: usize, size: usize, count: usize) -> Tables
             rules: u.rules,
             wishes: u.wishes,
         };
-        let fault = line_fault(c, l, k, k + 1 == count, n);
+        let fault = causes::line_fault(c, l, k, k + 1 == count, n);
         if fault != 0 {
-            return refused(fault, k + 1);
+            return tables::refused(fault, k + 1);
         }
         let letter = l.letter;
         let xs = l.numbers;
@@ -118,7 +108,7 @@ fn read_form(s: &[u8], n: usize) -> Tables
     if right {
         return read_lines(s, n, size, bytes / size);
     }
-    refused(LENGTH, 0)
+    tables::refused(LENGTH, 0)
 }
 
 pub fn read(s: &[u8]) -> Tables

@@ -1,22 +1,19 @@
-use Prim.Native.Nat.{_-_}
+use Prim.Native.Nat.{_-_, _≤_}
 use borrow.Author.Needs.{needs}
 use Rattle.dump.proofs.put_gates.Statement.{statement}
 use Rattle.dump.proofs.put_gates.Tie as tie
 
 abbrev Inv-loop : tie.InvT-loop
-Inv-loop count kind left right i₀ i = Unit {0}
+Inv-loop count kind left right i₀ i = i ≤ count
 
 abbrev μ-loop : tie.MeasureT-loop
-μ-loop count kind left right i₀ i = 400 - i
+μ-loop count kind left right i₀ i = count - i
 
 cast-count : tie.Need-cast-count Inv-loop μ-loop
 cast-count c = search needs
 
 loop-holds : tie.Need-loop-holds Inv-loop μ-loop
 loop-holds c = search needs
-
-returns : tie.Need-returns Inv-loop μ-loop
-returns c = search needs
 
 array-read-wide : tie.Need-array-read-wide Inv-loop μ-loop
 array-read-wide c = search needs
@@ -48,8 +45,8 @@ loop-less c = search needs
 loop-again : tie.Need-loop-again Inv-loop μ-loop
 loop-again c = search needs
 
-returns-2 : tie.Need-returns-2 Inv-loop μ-loop
-returns-2 c = search needs
+returns : tie.Need-returns Inv-loop μ-loop
+returns c = search needs
 
 pub put-gates-spec : {M : Type 1} → statement M
 put-gates-spec =
@@ -59,7 +56,6 @@ put-gates-spec =
     μ-loop
     cast-count
     loop-holds
-    returns
     array-read-wide
     wide-requires
     mul-put-three
@@ -70,4 +66,4 @@ put-gates-spec =
     add-i
     loop-less
     loop-again
-    returns-2)
+    returns)

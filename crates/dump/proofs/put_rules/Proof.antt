@@ -1,22 +1,19 @@
-use Prim.Native.Nat.{_-_}
+use Prim.Native.Nat.{_-_, _≤_}
 use borrow.Author.Needs.{needs}
 use Rattle.dump.proofs.put_rules.Statement.{statement}
 use Rattle.dump.proofs.put_rules.Tie as tie
 
 abbrev Inv-loop : tie.InvT-loop
-Inv-loop count rule i₀ i = Unit {0}
+Inv-loop count rule i₀ i = i ≤ count
 
 abbrev μ-loop : tie.MeasureT-loop
-μ-loop count rule i₀ i = 64 - i
+μ-loop count rule i₀ i = count - i
 
 cast-count : tie.Need-cast-count Inv-loop μ-loop
 cast-count c = search needs
 
 loop-holds : tie.Need-loop-holds Inv-loop μ-loop
 loop-holds c = search needs
-
-returns : tie.Need-returns Inv-loop μ-loop
-returns c = search needs
 
 mul-put : tie.Need-mul-put Inv-loop μ-loop
 mul-put c = search needs
@@ -42,8 +39,8 @@ loop-less c = search needs
 loop-again : tie.Need-loop-again Inv-loop μ-loop
 loop-again c = search needs
 
-returns-2 : tie.Need-returns-2 Inv-loop μ-loop
-returns-2 c = search needs
+returns : tie.Need-returns Inv-loop μ-loop
+returns c = search needs
 
 pub put-rules-spec : {M : Type 1} → statement M
 put-rules-spec =
@@ -53,7 +50,6 @@ put-rules-spec =
     μ-loop
     cast-count
     loop-holds
-    returns
     mul-put
     array-read-put
     cast-put
@@ -62,4 +58,4 @@ put-rules-spec =
     add-i
     loop-less
     loop-again
-    returns-2)
+    returns)

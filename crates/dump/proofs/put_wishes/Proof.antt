@@ -1,22 +1,19 @@
-use Prim.Native.Nat.{_-_}
+use Prim.Native.Nat.{_-_, _≤_}
 use borrow.Author.Needs.{needs}
 use Rattle.dump.proofs.put_wishes.Statement.{statement}
 use Rattle.dump.proofs.put_wishes.Tie as tie
 
 abbrev Inv-loop : tie.InvT-loop
-Inv-loop count first second third i₀ i = Unit {0}
+Inv-loop count first second third i₀ i = i ≤ count
 
 abbrev μ-loop : tie.MeasureT-loop
-μ-loop count first second third i₀ i = 64 - i
+μ-loop count first second third i₀ i = count - i
 
 cast-count : tie.Need-cast-count Inv-loop μ-loop
 cast-count c = search needs
 
 loop-holds : tie.Need-loop-holds Inv-loop μ-loop
 loop-holds c = search needs
-
-returns : tie.Need-returns Inv-loop μ-loop
-returns c = search needs
 
 mul-put-three : tie.Need-mul-put-three Inv-loop μ-loop
 mul-put-three c = search needs
@@ -48,8 +45,8 @@ loop-less c = search needs
 loop-again : tie.Need-loop-again Inv-loop μ-loop
 loop-again c = search needs
 
-returns-2 : tie.Need-returns-2 Inv-loop μ-loop
-returns-2 c = search needs
+returns : tie.Need-returns Inv-loop μ-loop
+returns c = search needs
 
 pub put-wishes-spec : {M : Type 1} → statement M
 put-wishes-spec =
@@ -59,7 +56,6 @@ put-wishes-spec =
     μ-loop
     cast-count
     loop-holds
-    returns
     mul-put-three
     array-read-put-three
     mul-put-three-2
@@ -70,4 +66,4 @@ put-wishes-spec =
     add-i
     loop-less
     loop-again
-    returns-2)
+    returns)

@@ -9,11 +9,11 @@ use mathlib.Core.List.{List, [], _∷_, _++_, map, append-assoc, append-nil}
 use mathlib.Core.Option.{Option, none, some}
 use mathlib.Core.Path.{_≡_, refl, sym, ap, _∙_}
 use lib.Dec.{eqb}
-use lib.ListN.{length, getD, take, drop, set, length-map}
-use lib.Seq.{take-take, take-add, take-suc-set, drop-at, drop-drop, drop-cons}
-use Rattle.scope.specs.Sheet.{fieldSize}
+use lib.ListN.{length, getD, take, drop, set, length-map, List·getD-map}
+use lib.Seq.{length-take-le, take-take, take-add, take-suc-set, drop-at, drop-drop, drop-cons, getD-take}
+use Rattle.scope.specs.Sheet.{plus, fieldSize}
 use Rattle.scope.specs.Sheet as scope
-use Rattle.scope.specs.Reading.{when, also, fieldOf, fieldsOf, letterOf, joined, lineOf, lineSize}
+use Rattle.scope.specs.Reading.{when, also, fieldOf, fieldsOf, letterOf, joined, lineOf, lineSize, at}
 use Rattle.sheet.specs.Columns.{numberFrom, fieldFrom}
 use Rattle.sheet.specs.Lines.{numbersFrom}
 use Rattle.sheet.specs.declared.field.Number.{Number}
@@ -41,6 +41,20 @@ map-set f (b ∷ l) (suc i) a = ap (λ r. f b ∷ r) (map-set f l i a)
 numbers-set : (i : ℕ) (xs : List Number) (x : Number) → i < length xs → numbersFrom (i + 1) (set xs i x) ≡ numbersFrom i xs ++ numberFrom x ∷ []
 unfolding numbersFrom
 numbers-set i xs x h = rw (add-one i, map-set numberFrom xs i x) (take-suc-set (map numberFrom xs) i (numberFrom x) (omega (arith, length-map xs numberFrom)))
+
+-- ---- the numbers of a line
+
+pub at-numbers : (n i : ℕ) (xs : List Number) → i < n → numberFrom (getD xs i (record { minus = false; size = 0 })) ≡ at (numbersFrom n xs) i
+unfolding numbersFrom
+at-numbers n i xs h = sym (getD-take n (map numberFrom xs) i (plus 0) h ∙ List·getD-map numberFrom xs i (record { minus = false; size = 0 }))
+
+pub length-numbers : (n : ℕ) (xs : List Number) → n ≤ length xs → length (numbersFrom n xs) ≡ n
+unfolding numbersFrom
+length-numbers n xs h = length-take-le n (map numberFrom xs) (omega (arith, length-map xs numberFrom))
+
+pub front-numbers : (m n : ℕ) (xs : List Number) → m ≤ n → take m (numbersFrom n xs) ≡ numbersFrom m xs
+unfolding numbersFrom
+front-numbers m n xs h = take-take m n (map numberFrom xs) h
 
 -- ---- fields: those read, and those left
 

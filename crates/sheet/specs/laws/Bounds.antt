@@ -1,7 +1,7 @@
 -- An accepted sheet is within the limits. Assumes nothing.
 use Prim.Native.Nat.{ℕ, zero, suc, _≤_, _<_}
 use native.Mathlib.Omega.{arith}
-use mathlib.Core.Bool.{Bool, true, not, _&&_}
+use mathlib.Core.Bool.{Bool, true, not}
 use mathlib.Core.List.{List, [], _∷_, _++_}
 use mathlib.Core.Option.{Option, none, some}
 use mathlib.Core.Path.{_≡_, sym, subst}
@@ -21,6 +21,9 @@ pub record Bounds (t : Sheet) : Type 0 where
   pub gates : length (t .gates) ≤ mostGates
   pub rules : length (t .rules) ≤ mostRules
   pub wishes : length (t .wishes) ≤ mostWishes
+
+pub started-bounds : Bounds (started 0 0)
+started-bounds = record { switches = omega arith; faults = omega arith; gates = omega arith; rules = omega arith; wishes = omega arith }
 
 up-to-size : (m : ℕ) (x : Number) → upTo m x ≡ true → x .size ≤ m
 up-to-size m x e = leb-true (x .size) m (both (not (x .minus)) (leb (x .size) m) e .1)
@@ -48,7 +51,7 @@ module _ (t : Sheet) (k : ℕ) (last : Bool) (b : Bounds t) where
 module _ (n : ℕ) (s : List ℕ) where
   pub before-bounds : (k : ℕ) → ((j : ℕ) → j < k → Passed n s j) → Bounds (before n s k)
   unfolding before testsAt
-  before-bounds zero p = record { switches = omega arith; faults = omega arith; gates = omega arith; rules = omega arith; wishes = omega arith }
+  before-bounds zero p = started-bounds
   before-bounds (suc k) p = add-bounds (before n s k) k _ (before-bounds k (λ j h. p j (omega arith))) (lineAt n s k) (p k (omega arith))
 
   pub accepted-bounds : (t : Sheet) → read n s ≡ accepted t → Bounds t

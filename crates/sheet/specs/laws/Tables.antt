@@ -2,8 +2,8 @@
 use Prim.Native.Nat.{ℕ, zero, suc, _+_, _-_, _≤_, _<_}
 use native.Mathlib.Omega.{arith}
 use mathlib.Core.List.{List, [], _∷_, _++_, map}
-use mathlib.Core.Path.{_≡_, refl, ap, _∙_}
-use lib.ListN.{length, getD, replicate, length-append, length-map, length-replicate, List·getD-eq-default, List·getD-append, getD-replicate}
+use mathlib.Core.Path.{_≡_, refl}
+use lib.ListN.{length, getD, replicate, length-append, length-map, length-replicate}
 use Rattle.scope.specs.Sheet.{Clause, Gate, Sheet, mostGates, mostRules, mostWishes}
 use Rattle.scope.specs.Reading.{Read, accepted}
 use Rattle.sheet.specs.declared.tables.Tables.{Tables}

@@ -1,5 +1,5 @@
-use Rattle.sheet.proofs.tests.Fields.{front-numbers}
-use Rattle.scope.specs.Reading.{rows, literals, tests}
+use Rattle.sheet.proofs.line.Parts.{front-numbers}
+use Rattle.scope.specs.Reading.{rows, literals}
 use Rattle.scope.specs.Sheet.{mostWishes, mostLiterals}
 use lib.Dec.{ltb}
 use Rattle.sheet.proofs.causes.Rows.{row, none-left}

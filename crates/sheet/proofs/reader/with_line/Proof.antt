@@ -2,7 +2,7 @@ use Rattle.sheet.specs.Tables.{filled}
 use Rattle.scope.specs.Reading.{clause, started, addRule, addWish, make}
 use Rattle.scope.specs.Sheet.{Gate, mostLiterals}
 use mathlib.Core.Path.{refl, sym, ap, ap₂, _∙_}
-use Rattle.sheet.proofs.tests.Fields.{front-numbers}
+use Rattle.sheet.proofs.line.Parts.{front-numbers}
 use borrow.Author.Needs.{needs}
 use Rattle.sheet.proofs.reader.with_line.Statement.{statement}
 use Rattle.sheet.proofs.reader.with_line.Tie as tie

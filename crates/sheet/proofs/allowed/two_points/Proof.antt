@@ -2,8 +2,8 @@ use Rattle.scope.specs.Reading.{point}
 use mathlib.Core.Bool.{_&&_}
 use mathlib.Core.Path.{ap, ap₂, _∙_}
 use borrow.Author.Needs.{needs}
-use Rattle.sheet.proofs.tests.two_points.Statement.{statement}
-use Rattle.sheet.proofs.tests.two_points.Tie as tie
+use Rattle.sheet.proofs.allowed.two_points.Statement.{statement}
+use Rattle.sheet.proofs.allowed.two_points.Tie as tie
 
 nth-requires : tie.Need-nth-requires
 nth-requires c κs = search needs

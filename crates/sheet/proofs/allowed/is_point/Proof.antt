@@ -1,6 +1,6 @@
 use borrow.Author.Needs.{needs}
-use Rattle.sheet.proofs.tests.is_point.Statement.{statement}
-use Rattle.sheet.proofs.tests.is_point.Tie as tie
+use Rattle.sheet.proofs.allowed.is_point.Statement.{statement}
+use Rattle.sheet.proofs.allowed.is_point.Tie as tie
 
 is-up-to-requires : tie.Need-is-up-to-requires
 is-up-to-requires c κs = search needs

@@ -9,6 +9,7 @@ ghost use Rattle.sheet.specs.Columns.{numberFrom};
 ghost use Rattle.sheet.specs.Lines.{numbersFrom};
 use crate::field::Number;
 use crate::line::MOST_FIELDS;
+use crate::line::nth;
 
 pub const MOST_LITERALS: usize = 3;
 
@@ -49,14 +50,6 @@ fn is_literal(x: Number, a: u32) -> bool
     both(x.size <= a, 0 < x.size)
 }
 
-// Field i of n.
-pub fn nth(xs: [Number; MOST_FIELDS], i: usize, n: usize) -> Number
-    requires { ⌜ (i < n) × (n ≤ 4) ⌝ }
-    ensures { λ r. ⌜ numberFrom r ≡ at (numbersFrom n xs) i ⌝ }
-{
-    xs[i]
-}
-
 // Whether the fields from `from` on hold 0.
 pub fn unused(xs: [Number; MOST_FIELDS], from: usize, n: usize) -> bool
     requires { ⌜ (from ≤ n) × (n ≤ 4) ⌝ }
@@ -82,7 +75,8 @@ pub fn are_literals(xs: [Number; MOST_FIELDS], a: u32) -> bool
         let x = nth(xs, i, MOST_LITERALS);
         let zero = is_number(x, 0);
         if zero {
-            return unused(xs, i + 1, MOST_LITERALS);
+            let rest = i + 1;
+            return unused(xs, rest, MOST_LITERALS);
         }
         let known = is_literal(x, a);
         if !known {

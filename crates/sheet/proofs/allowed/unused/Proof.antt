@@ -1,13 +1,13 @@
 use borrow.Author.Tests.{not-true, not-false}
-use Rattle.sheet.proofs.tests.Fields.{zeros-end, zeros-go-on, zeros-stop}
+use Rattle.sheet.proofs.allowed.Fields.{zeros-end, zeros-go-on, zeros-stop}
 use Rattle.sheet.specs.Lines.{numbersFrom}
 use Rattle.scope.specs.Reading.{zeros}
 use mathlib.Core.Path.{_≡_, refl, sym, _∙_}
 use Prim.Native.Nat.{_-_, _≤_}
 use lib.ListN.{drop}
 use borrow.Author.Needs.{needs}
-use Rattle.sheet.proofs.tests.unused.Statement.{statement}
-use Rattle.sheet.proofs.tests.unused.Tie as tie
+use Rattle.sheet.proofs.allowed.unused.Statement.{statement}
+use Rattle.sheet.proofs.allowed.unused.Tie as tie
 
 abbrev Inv-loop : tie.InvT-loop
 Inv-loop xs from n i₀ i = (i ≤ n) × (zeros (drop i (numbersFrom n xs)) ≡ zeros (drop from (numbersFrom n xs)))

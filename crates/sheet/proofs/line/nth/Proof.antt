@@ -1,7 +1,7 @@
-use Rattle.sheet.proofs.tests.Fields.{at-numbers}
+use Rattle.sheet.proofs.line.Parts.{at-numbers}
 use borrow.Author.Needs.{needs}
-use Rattle.sheet.proofs.tests.nth.Statement.{statement}
-use Rattle.sheet.proofs.tests.nth.Tie as tie
+use Rattle.sheet.proofs.line.nth.Statement.{statement}
+use Rattle.sheet.proofs.line.nth.Tie as tie
 
 mul-result : tie.Need-mul-result
 mul-result c = search needs

@@ -1,4 +1,4 @@
-use Rattle.sheet.proofs.tests.Fields.{literals-end, literals-fill, literals-go-on, literals-stop}
+use Rattle.sheet.proofs.allowed.Fields.{literals-end, literals-fill, literals-go-on, literals-stop}
 use borrow.Author.Tests.{not-true, not-false}
 use Rattle.sheet.specs.Lines.{numbersFrom}
 use Rattle.scope.specs.Sheet.{mostLiterals}
@@ -7,8 +7,8 @@ use Prim.Native.Nat.{_-_, _≤_}
 use lib.ListN.{drop}
 use borrow.Author.Needs.{needs}
 use mathlib.Core.Path.{_≡_, refl, sym, _∙_}
-use Rattle.sheet.proofs.tests.are_literals.Statement.{statement}
-use Rattle.sheet.proofs.tests.are_literals.Tie as tie
+use Rattle.sheet.proofs.allowed.are_literals.Statement.{statement}
+use Rattle.sheet.proofs.allowed.are_literals.Tie as tie
 
 abbrev Inv-loop : tie.InvT-loop
 Inv-loop xs a i₀ i = (i ≤ mostLiterals) × (literals a (drop i (numbersFrom mostLiterals xs)) ≡ literals a (numbersFrom mostLiterals xs))
@@ -25,8 +25,8 @@ nth-requires c κs = search needs
 is-number-requires : tie.Need-is-number-requires Inv-loop μ-loop
 is-number-requires c κs = search needs
 
-add-unused : tie.Need-add-unused Inv-loop μ-loop
-add-unused c = search needs
+add-rest : tie.Need-add-rest Inv-loop μ-loop
+add-rest c = search needs
 
 unused-requires : tie.Need-unused-requires Inv-loop μ-loop
 unused-requires c κs = search needs
@@ -61,7 +61,7 @@ are-literals-spec =
     loop-holds
     nth-requires
     is-number-requires
-    add-unused
+    add-rest
     unused-requires
     returns
     is-literal-requires
