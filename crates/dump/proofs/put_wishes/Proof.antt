@@ -1,0 +1,69 @@
+use Prim.Native.Nat.{_-_, _≤_}
+use borrow.Author.Needs.{needs}
+use Rattle.dump.proofs.put_wishes.Statement.{statement}
+use Rattle.dump.proofs.put_wishes.Tie as tie
+
+abbrev Inv-loop : tie.InvT-loop
+Inv-loop count first second third i₀ i = i ≤ count
+
+abbrev μ-loop : tie.MeasureT-loop
+μ-loop count first second third i₀ i = count - i
+
+cast-count : tie.Need-cast-count Inv-loop μ-loop
+cast-count c = search needs
+
+loop-holds : tie.Need-loop-holds Inv-loop μ-loop
+loop-holds c = search needs
+
+mul-put-three : tie.Need-mul-put-three Inv-loop μ-loop
+mul-put-three c = search needs
+
+array-read-put-three : tie.Need-array-read-put-three Inv-loop μ-loop
+array-read-put-three c = search needs
+
+mul-put-three-2 : tie.Need-mul-put-three-2 Inv-loop μ-loop
+mul-put-three-2 c = search needs
+
+array-read-put-three-2 : tie.Need-array-read-put-three-2 Inv-loop μ-loop
+array-read-put-three-2 c = search needs
+
+mul-put-three-3 : tie.Need-mul-put-three-3 Inv-loop μ-loop
+mul-put-three-3 c = search needs
+
+array-read-put-three-3 : tie.Need-array-read-put-three-3 Inv-loop μ-loop
+array-read-put-three-3 c = search needs
+
+put-three-requires : tie.Need-put-three-requires Inv-loop μ-loop
+put-three-requires c κs = search needs
+
+add-i : tie.Need-add-i Inv-loop μ-loop
+add-i c = search needs
+
+loop-less : tie.Need-loop-less Inv-loop μ-loop
+loop-less c = search needs
+
+loop-again : tie.Need-loop-again Inv-loop μ-loop
+loop-again c = search needs
+
+returns : tie.Need-returns Inv-loop μ-loop
+returns c = search needs
+
+pub put-wishes-spec : {M : Type 1} → statement M
+put-wishes-spec =
+    tie.close
+    (tie.spec
+    Inv-loop
+    μ-loop
+    cast-count
+    loop-holds
+    mul-put-three
+    array-read-put-three
+    mul-put-three-2
+    array-read-put-three-2
+    mul-put-three-3
+    array-read-put-three-3
+    put-three-requires
+    add-i
+    loop-less
+    loop-again
+    returns)

@@ -1,0 +1,42 @@
+use Rattle.scope.specs.Sheet.{mostGates}
+use lib.Dec.{eqb, ltb}
+use Rattle.sheet.proofs.causes.Rows.{row, none-left}
+use native.Mathlib.Omega.{arith}
+use mathlib.Core.Bool.{_&&_}
+use mathlib.Core.Path.{refl, ap, ap₂, _∙_}
+use borrow.Author.Needs.{needs}
+use Rattle.sheet.proofs.causes.gate_fault.Statement.{statement}
+use Rattle.sheet.proofs.causes.gate_fault.Tie as tie
+
+between-requires : tie.Need-between-requires
+between-requires c κs = search needs
+
+both-requires : tie.Need-both-requires
+both-requires c κs = search needs
+
+both-requires-2 : tie.Need-both-requires-2
+both-requires-2 c κs = search needs
+
+row-requires : tie.Need-row-requires
+row-requires c κs = search needs
+
+row-requires-2 : tie.Need-row-requires-2
+row-requires-2 c κs = search needs
+
+row-requires-3 : tie.Need-row-requires-3
+row-requires-3 c κs = search needs
+
+returns : tie.Need-returns
+returns c = λ t h. row 3 (c .row3 .ensures) (c .before .before .before .before .both2 .ensures ∙ ap₂ (λ a b. a && b) (c .before .before .before .before .before .before .before .before .between .ensures) (c .before .before .before .before .before .both .ensures ∙ ap₂ (λ a b. eqb a 0 && eqb b 0) (h .rules) (h .wishes))) (omega arith) (row 5 (c .before .row2 .ensures) (ap (λ a. ltb a mostGates) (h .gates)) (omega arith) (row 6 (c .before .before .row .ensures) refl (omega arith) none-left))
+
+pub gate-fault-spec : {M : Type 1} → statement M
+gate-fault-spec =
+    tie.close
+    (tie.spec
+    between-requires
+    both-requires
+    both-requires-2
+    row-requires
+    row-requires-2
+    row-requires-3
+    returns)

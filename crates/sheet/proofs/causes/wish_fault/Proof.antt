@@ -1,0 +1,49 @@
+use Rattle.sheet.proofs.line.Parts.{front-numbers}
+use Rattle.scope.specs.Reading.{rows, literals}
+use Rattle.scope.specs.Sheet.{mostWishes, mostLiterals}
+use lib.Dec.{ltb}
+use Rattle.sheet.proofs.causes.Rows.{row, none-left}
+use native.Mathlib.Omega.{arith}
+use mathlib.Core.Bool.{_&&_}
+use mathlib.Core.Path.{sym, ap, ap₂, _∙_}
+use borrow.Author.Needs.{needs}
+use Rattle.sheet.proofs.causes.wish_fault.Statement.{statement}
+use Rattle.sheet.proofs.causes.wish_fault.Tie as tie
+
+between-requires : tie.Need-between-requires
+between-requires c κs = search needs
+
+are-literals-requires : tie.Need-are-literals-requires
+are-literals-requires c κs = search needs
+
+unused-requires : tie.Need-unused-requires
+unused-requires c κs = search needs
+
+both-requires : tie.Need-both-requires
+both-requires c κs = search needs
+
+row-requires : tie.Need-row-requires
+row-requires c κs = search needs
+
+row-requires-2 : tie.Need-row-requires-2
+row-requires-2 c κs = search needs
+
+row-requires-3 : tie.Need-row-requires-3
+row-requires-3 c κs = search needs
+
+returns : tie.Need-returns
+unfolding rows
+returns c = λ t h. row 3 (c .row3 .ensures) (c .before .before .before .before .before .before .before .between .ensures) (omega arith) (row 5 (c .before .row2 .ensures) (ap (λ a. ltb a mostWishes) (h .wishes)) (omega arith) (row 6 (c .before .before .row .ensures) (c .before .before .before .both .ensures ∙ ap₂ (λ a b. a && b) (c .before .before .before .before .before .are-literals .ensures ∙ ap₂ literals (h .switches) (sym (front-numbers mostLiterals _ _ (c .before .before .before .before .before .before .before .before .pre .0)))) (c .before .before .before .before .unused .ensures)) (omega arith) none-left))
+
+pub wish-fault-spec : {M : Type 1} → statement M
+wish-fault-spec =
+    tie.close
+    (tie.spec
+    between-requires
+    are-literals-requires
+    unused-requires
+    both-requires
+    row-requires
+    row-requires-2
+    row-requires-3
+    returns)

@@ -1,0 +1,15 @@
+use Rattle.sheet.proofs.Rules.{tests}
+use Rattle.sheet.specs.Columns.{unlessLast, pick}
+use Rattle.sheet.proofs.field.unless_last.Statement.{statement}
+use Rattle.sheet.proofs.field.unless_last.Tie as tie
+
+returns : tie.Need-returns
+unfolding unlessLast pick
+returns c = search tests
+
+returns-2 : tie.Need-returns-2
+unfolding unlessLast pick
+returns-2 c = search tests
+
+pub unless-last-spec : {M : Type 1} → statement M
+unless-last-spec = tie.close (tie.spec returns returns-2)

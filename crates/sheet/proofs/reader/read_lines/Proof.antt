@@ -1,0 +1,78 @@
+use Rattle.scope.specs.Causes.{before}
+use Rattle.sheet.proofs.reader.Lines.{Reached, begun, line-fits, few, found-room, reached-next, turned-down, taken-in}
+use mathlib.Core.Path.{_∙_}
+use Prim.Native.Nat.{_-_}
+use native.Mathlib.Omega.{arith}
+use borrow.Author.Needs.{needs}
+use Rattle.sheet.proofs.reader.read_lines.Statement.{statement}
+use Rattle.sheet.proofs.reader.read_lines.Tie as tie
+
+abbrev Inv-loop : tie.InvT-loop
+Inv-loop s n size count u₀ k₀ u k = Reached n s k u
+
+abbrev μ-loop : tie.MeasureT-loop
+μ-loop s n size count u₀ k₀ u k = count - k
+
+start-requires : tie.Need-start-requires Inv-loop μ-loop
+start-requires c κs = search needs
+
+loop-holds : tie.Need-loop-holds Inv-loop μ-loop
+unfolding before
+loop-holds c = begun _ _ _ (c .start .ensures)
+
+mul-line-at : tie.Need-mul-line-at Inv-loop μ-loop
+mul-line-at c = omega (arith, line-fits _ _ _ _ _ (c .before .before .before .before .pre) (c .loop-test .taken))
+
+line-at-requires : tie.Need-line-at-requires Inv-loop μ-loop
+line-at-requires c κs = (c .before .before .before .before .pre .most, line-fits _ _ _ _ _ (c .before .before .before .before .pre) (c .loop-test .taken))
+
+add-line-fault : tie.Need-add-line-fault Inv-loop μ-loop
+add-line-fault c = search needs
+
+line-fault-requires : tie.Need-line-fault-requires Inv-loop μ-loop
+line-fault-requires c κs = (few _ _ _ _ (c .before .before .loop .inv), c .before .before .before .before .before .pre .least, c .before .before .before .before .before .pre .most)
+
+add-refused : tie.Need-add-refused Inv-loop μ-loop
+add-refused c = search needs
+
+refused-requires : tie.Need-refused-requires Inv-loop μ-loop
+refused-requires c κs = search needs
+
+returns : tie.Need-returns Inv-loop μ-loop
+returns c = c .refused .ensures ∙ turned-down _ _ _ _ _ _ _ _ (c .before .before .before .before .before .before .before .before .pre) (c .before .before .before .before .before .loop .inv) (c .before .before .before .before .loop-test .taken) (c .before .before .before .line-at .ensures) (c .before .before .line-fault .ensures) (c .before .if1 .taken)
+
+with-line-requires : tie.Need-with-line-requires Inv-loop μ-loop
+with-line-requires c κs = (found-room _ _ _ _ _ _ _ _ (c .before .before .before .before .before .before .before .before .pre) (c .before .before .before .before .before .loop .inv) (c .before .before .before .before .loop-test .taken) (c .before .before .before .line-at .ensures) (c .before .before .line-fault .ensures) (c .before .if1 .left), c .before .before .before .before .before .before .before .before .pre .least, c .before .before .before .before .before .before .before .before .pre .most)
+
+add-k : tie.Need-add-k Inv-loop μ-loop
+add-k c = search needs
+
+loop-less : tie.Need-loop-less Inv-loop μ-loop
+loop-less c = search needs
+
+loop-again : tie.Need-loop-again Inv-loop μ-loop
+loop-again c = reached-next _ _ _ _ _ _ _ _ (c .before .before .before .before .before .before .before .before .before .pre) (c .before .before .before .before .before .before .loop .inv) (c .before .before .before .before .before .loop-test .taken) (c .before .before .before .before .line-at .ensures) (c .before .before .before .line-fault .ensures) _ (c .before .before .if1 .left) (c .with-line .ensures)
+
+returns-2 : tie.Need-returns-2 Inv-loop μ-loop
+returns-2 c = taken-in _ _ _ _ _ _ (c .before .before .before .before .pre) (c .loop-test .left) (c .before .loop .inv)
+
+pub read-lines-spec : {M : Type 1} → statement M
+read-lines-spec =
+    tie.close
+    (tie.spec
+    Inv-loop
+    μ-loop
+    start-requires
+    loop-holds
+    mul-line-at
+    line-at-requires
+    add-line-fault
+    line-fault-requires
+    add-refused
+    refused-requires
+    returns
+    with-line-requires
+    add-k
+    loop-less
+    loop-again
+    returns-2)

@@ -1,0 +1,41 @@
+use Rattle.sheet.proofs.reader.Literals.{code-fits, code-is}
+use borrow.Author.Needs.{needs}
+use Rattle.sheet.proofs.reader.with_literals.Statement.{statement}
+use Rattle.sheet.proofs.reader.with_literals.Tie as tie
+
+nth-requires : tie.Need-nth-requires
+nth-requires c κs = search needs
+
+literal-code-requires : tie.Need-literal-code-requires
+literal-code-requires c κs = code-fits _ 0 _ _ (c .before .pre .2) (c .nth .ensures) (c .before .pre .1)
+
+nth-requires-2 : tie.Need-nth-requires-2
+nth-requires-2 c κs = search needs
+
+literal-code-requires-2 : tie.Need-literal-code-requires-2
+literal-code-requires-2 c κs = code-fits _ 1 _ _ (c .before .before .before .pre .2) (c .nth2 .ensures) (c .before .before .before .pre .1)
+
+nth-requires-3 : tie.Need-nth-requires-3
+nth-requires-3 c κs = search needs
+
+literal-code-requires-3 : tie.Need-literal-code-requires-3
+literal-code-requires-3 c κs = code-fits _ 2 _ _ (c .before .before .before .before .before .pre .2) (c .nth3 .ensures) (c .before .before .before .before .before .pre .1)
+
+with-wish-requires : tie.Need-with-wish-requires
+with-wish-requires c κs = search needs
+
+returns : tie.Need-returns
+returns c = λ t e. let l = c .before .before .before .before .before .before .before .pre .2 in c .with-wish .ensures t _ e (code-is _ 0 _ _ l (c .before .before .before .before .before .before .nth .ensures) (c .before .before .before .before .before .literal-code .ensures)) (code-is _ 1 _ _ l (c .before .before .before .before .nth2 .ensures) (c .before .before .before .literal-code2 .ensures)) (code-is _ 2 _ _ l (c .before .before .nth3 .ensures) (c .before .literal-code3 .ensures))
+
+pub with-literals-spec : {M : Type 1} → statement M
+with-literals-spec =
+    tie.close
+    (tie.spec
+    nth-requires
+    literal-code-requires
+    nth-requires-2
+    literal-code-requires-2
+    nth-requires-3
+    literal-code-requires-3
+    with-wish-requires
+    returns)

@@ -1,0 +1,19 @@
+-- One more entry in an array of the tables. Assumes nothing.
+use Prim.Native.Nat.{ℕ, suc, _-_, _<_}
+use native.Mathlib.Omega.{arith}
+use mathlib.Core.List.{List, [], _∷_, _++_, map, append-assoc}
+use mathlib.Core.Path.{_≡_, refl, sym, ap, _∙_}
+use lib.ListN.{length, set, replicate, length-map}
+use lib.Seq.{set-at}
+use Rattle.scope.specs.laws.Fields.{length-snoc}
+use Rattle.sheet.specs.Tables.{padded}
+
+map-snoc : {A B : Type 0} (f : A → B) (l : List A) (a : A) → map f (l ++ a ∷ []) ≡ map f l ++ f a ∷ []
+map-snoc f [] a = refl
+map-snoc f (b ∷ l) a = ap (λ r. f b ∷ r) (map-snoc f l a)
+
+pub set-padded : {A : Type 0} (n : ℕ) (f : A → ℕ) (l : List A) (a : A) → length l < n → set (padded n f l) (length l) (f a) ≡ padded n f (l ++ a ∷ [])
+unfolding padded
+set-padded n f l a h =
+    let e : n - length l ≡ suc (n - suc (length l)) = omega arith in
+    rw (e, length-snoc l a, map-snoc f l a) (set-at (map f l) 0 (replicate (n - suc (length l)) 0) (f a) (length l) (length-map l f) ∙ sym (append-assoc (map f l) (f a ∷ []) (replicate (n - suc (length l)) 0)))

@@ -1,0 +1,68 @@
+-- What `read` returns, word by word, for a sheet and for a refusal. Assumes nothing.
+use Prim.Native.Nat.{ℕ, _+_, _-_, _*_}
+use Prim.Native.Char.{code}
+use mathlib.Core.Bool.{cond}
+use mathlib.Core.List.{List, _++_, map}
+use lib.ListN.{length, getD, replicate}
+use Rattle.scope.specs.Sheet.{Number, plus, Clause, Gate, Sheet, mostGates, mostRules, mostWishes}
+use Rattle.scope.specs.Reading.{started, Read, accepted, refused}
+use Rattle.sheet.specs.declared.tables.Tables.{Tables}
+
+-- n words: f of each entry, then zeros
+unfoldable pub padded : {A : Type 0} → ℕ → (A → ℕ) → List A → List ℕ
+padded n f l = map f l ++ replicate (n - length l) 0
+
+-- a gate: its letter and the points that it names
+abbrev pub kindOf : Gate → ℕ
+kindOf (Gate.not p) = code "N"
+kindOf (Gate.and p q) = code "A"
+kindOf (Gate.or p q) = code "O"
+
+abbrev pub leftOf : Gate → ℕ
+leftOf (Gate.not p) = p
+leftOf (Gate.and p q) = p
+leftOf (Gate.or p q) = p
+
+abbrev pub rightOf : Gate → ℕ
+rightOf (Gate.not p) = 0
+rightOf (Gate.and p q) = q
+rightOf (Gate.or p q) = q
+
+abbrev pub pointOf : ℕ → ℕ
+pointOf p = p
+
+-- a literal k as 2k, -k as 2k + 1
+abbrev pub literalCode : Number → ℕ
+literalCode x = cond (x .minus) (x .size * 2 + 1) (x .size * 2)
+
+-- literal i of a wish, and 0 past its last
+abbrev pub literalAt : ℕ → Clause → ℕ
+literalAt i w = literalCode (getD w i (plus 0))
+
+unfoldable pub tables : (number place : ℕ) → Sheet → Tables
+tables n k t = record {
+  number = n;
+  place = k;
+  switches = t .switches;
+  faults = t .faults;
+  gates = length (t .gates);
+  rules = length (t .rules);
+  wishes = length (t .wishes);
+  kind = padded mostGates kindOf (t .gates);
+  left = padded mostGates leftOf (t .gates);
+  right = padded mostGates rightOf (t .gates);
+  rule = padded mostRules pointOf (t .rules);
+  first = padded mostWishes (literalAt 0) (t .wishes);
+  second = padded mostWishes (literalAt 1) (t .wishes);
+  third = padded mostWishes (literalAt 2) (t .wishes);
+}
+
+abbrev pub filled : Sheet → Tables
+filled t = tables 0 0 t
+
+abbrev pub refusal : (number place : ℕ) → Tables
+refusal n k = tables n k (started 0 0)
+
+abbrev pub outcome : Read → Tables
+outcome (accepted t) = filled t
+outcome (refused n k) = refusal n k

@@ -1,0 +1,58 @@
+-- An accepted sheet is within the limits. Assumes nothing.
+use Prim.Native.Nat.{ℕ, zero, suc, _≤_, _<_}
+use native.Mathlib.Omega.{arith}
+use mathlib.Core.Bool.{Bool, true, not}
+use mathlib.Core.List.{List, [], _∷_, _++_}
+use mathlib.Core.Option.{Option, none, some}
+use mathlib.Core.Path.{_≡_, sym, subst}
+use lib.Dec.{leb}
+use lib.ListN.{length}
+use borrow.Author.Tests.{leb-true, ltb-true}
+use Rattle.scope.specs.Sheet.{Number, Sheet, Letter, H, N, A, O, R, W, Z, Line, mostSwitches, mostFaults, mostGates, mostRules, mostWishes}
+use Rattle.scope.specs.Reading.{upTo, at, rows, tests, started, make, add, accepted, lineCount, lineAt, testsAt, read}
+use Rattle.scope.specs.Causes.{Met, before, Passed}
+use Rattle.scope.specs.laws.Tests.{both}
+use Rattle.scope.specs.laws.Fields.{length-snoc}
+use Rattle.scope.specs.laws.Refusals.{accepted-iff}
+
+pub record Bounds (t : Sheet) : Type 0 where
+  pub switches : t .switches ≤ mostSwitches
+  pub faults : t .faults ≤ mostFaults
+  pub gates : length (t .gates) ≤ mostGates
+  pub rules : length (t .rules) ≤ mostRules
+  pub wishes : length (t .wishes) ≤ mostWishes
+
+pub started-bounds : Bounds (started 0 0)
+started-bounds = record { switches = omega arith; faults = omega arith; gates = omega arith; rules = omega arith; wishes = omega arith }
+
+up-to-size : (m : ℕ) (x : Number) → upTo m x ≡ true → x .size ≤ m
+up-to-size m x e = leb-true (x .size) m (both (not (x .minus)) (leb (x .size) m) e .1)
+
+module _ (t : Sheet) (k : ℕ) (last : Bool) (b : Bounds t) where
+  one-more : {E : Type 0} (l : List E) (a : E) (m : ℕ) → length l < m → length (l ++ a ∷ []) ≤ m
+  one-more l a m h = omega (arith, length-snoc l a)
+
+  make-bounds : (c : Letter) (xs : List Number) → Met (rows t k last c xs) → Bounds (make t c xs)
+  unfolding rows make
+  make-bounds H xs (_, (e, _)) =
+      let (p, q) = both (upTo mostSwitches (at xs 0)) (upTo mostFaults (at xs 1)) e in
+      record { switches = up-to-size mostSwitches (at xs 0) p; faults = up-to-size mostFaults (at xs 1) q; gates = omega arith; rules = omega arith; wishes = omega arith }
+  make-bounds N xs (_, (e, _)) = record { switches = b .switches; faults = b .faults; gates = one-more (t .gates) _ mostGates (ltb-true (length (t .gates)) mostGates e); rules = b .rules; wishes = b .wishes }
+  make-bounds A xs (_, (e, _)) = record { switches = b .switches; faults = b .faults; gates = one-more (t .gates) _ mostGates (ltb-true (length (t .gates)) mostGates e); rules = b .rules; wishes = b .wishes }
+  make-bounds O xs (_, (e, _)) = record { switches = b .switches; faults = b .faults; gates = one-more (t .gates) _ mostGates (ltb-true (length (t .gates)) mostGates e); rules = b .rules; wishes = b .wishes }
+  make-bounds R xs (_, (e, _)) = record { switches = b .switches; faults = b .faults; gates = b .gates; rules = one-more (t .rules) _ mostRules (ltb-true (length (t .rules)) mostRules e); wishes = b .wishes }
+  make-bounds W xs (_, (e, _)) = record { switches = b .switches; faults = b .faults; gates = b .gates; rules = b .rules; wishes = one-more (t .wishes) _ mostWishes (ltb-true (length (t .wishes)) mostWishes e) }
+  make-bounds Z xs m = b
+
+  add-bounds : (o : Option Line) → Met (tests t k last o) → Bounds (add t o)
+  add-bounds none m = b
+  add-bounds (some l) m = make-bounds (l .letter) (l .fields) m
+
+module _ (n : ℕ) (s : List ℕ) where
+  pub before-bounds : (k : ℕ) → ((j : ℕ) → j < k → Passed n s j) → Bounds (before n s k)
+  unfolding before testsAt
+  before-bounds zero p = started-bounds
+  before-bounds (suc k) p = add-bounds (before n s k) k _ (before-bounds k (λ j h. p j (omega arith))) (lineAt n s k) (p k (omega arith))
+
+  pub accepted-bounds : (t : Sheet) → read n s ≡ accepted t → Bounds t
+  accepted-bounds t e = let (c, g) = accepted-iff n s t .0 e in subst Bounds (sym g) (before-bounds (lineCount n s) (c .lines))

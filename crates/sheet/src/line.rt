@@ -1,0 +1,120 @@
+// A line: one letter, its fields, one line feed. The number n of fields is a parameter.
+ghost use mathlib.Core.Path.{_≡_};
+ghost use Prim.Native.Nat.{_+_, _*_, _≤_, _<_};
+ghost use lib.ListN.{length, take, drop};
+ghost use Rattle.scope.specs.Sheet.{fieldSize};
+ghost use Rattle.scope.specs.Reading.{letterOf, fieldsOf, lineOf, lineSize, at};
+ghost use Rattle.sheet.specs.Lines.{letterFrom, numbersFrom, fieldsFrom, lineFrom};
+ghost use Rattle.sheet.specs.Columns.{numberFrom};
+use crate::field;
+use crate::field::FIELD_SIZE;
+use crate::field::Number;
+
+pub const MOST_FIELDS: usize = 4;
+
+const HEAD: u8 = b'H';
+
+pub const NOT: u8 = b'N';
+
+pub const AND: u8 = b'A';
+
+pub const OR: u8 = b'O';
+
+const RULE: u8 = b'R';
+
+const WISH: u8 = b'W';
+
+const END: u8 = b'Z';
+
+const LINE_FEED: u8 = b'\n';
+
+pub enum Letter {
+    Head,
+    Not,
+    And,
+    Or,
+    Rule,
+    Wish,
+    End,
+    Unknown,
+}
+
+// The fields before a line feed; the numbers count only where all of it is formed.
+pub struct Fields {
+    pub formed: bool,
+    pub numbers: [Number; MOST_FIELDS],
+}
+
+pub struct Line {
+    pub letter: Letter,
+    // whether the fields and the line feed are
+    pub formed: bool,
+    pub numbers: [Number; MOST_FIELDS],
+}
+
+fn letter_of(b: u8) -> Letter
+    ensures { λ r. ⌜ letterFrom r ≡ letterOf b ⌝ }
+{
+    match b {
+        HEAD => Letter::Head,
+        NOT => Letter::Not,
+        AND => Letter::And,
+        OR => Letter::Or,
+        RULE => Letter::Rule,
+        WISH => Letter::Wish,
+        END => Letter::End,
+        _ => Letter::Unknown,
+    }
+}
+
+// The n fields from `at`, up to the first that is not formed.
+fn fields_at(s: &[u8], at: usize, n: usize) -> Fields
+    requires { ⌜ (n ≤ 4) × (at + (n * fieldSize + 1) ≤ length (now s)) ⌝ }
+    ensures { λ r. ⌜ fieldsFrom n r ≡ fieldsOf n (take (n * fieldSize + 1) (drop at (now (s .entry)))) ⌝ }
+{
+    let mut numbers = [Number {
+        minus: false,
+        size: 0,
+    }; MOST_FIELDS];
+    let mut i = 0;
+    while i < n {
+        let f = field::field_at(s, at + i * FIELD_SIZE);
+        if !f.formed {
+            return Fields {
+                formed: false,
+                numbers,
+            };
+        }
+        let x = f.number;
+        numbers[i] = x;
+        i += 1;
+    }
+    let end = s[at + n * FIELD_SIZE];
+    Fields {
+        formed: end == LINE_FEED,
+        numbers,
+    }
+}
+
+// The line of n fields from `at`.
+pub fn line_at(s: &[u8], at: usize, n: usize) -> Line
+    requires { ⌜ (n ≤ 4) × (at + lineSize n ≤ length (now s)) ⌝ }
+    ensures { λ r. ⌜ lineFrom n r ≡ lineOf n (take (lineSize n) (drop at (now (s .entry)))) ⌝ }
+{
+    let letter = letter_of(s[at]);
+    let f = fields_at(s, at + 1, n);
+    let numbers = f.numbers;
+    Line {
+        letter,
+        formed: f.formed,
+        numbers,
+    }
+}
+
+// Field i of n.
+pub fn nth(xs: [Number; MOST_FIELDS], i: usize, n: usize) -> Number
+    requires { ⌜ (i < n) × (n ≤ 4) ⌝ }
+    ensures { λ r. ⌜ numberFrom r ≡ at (numbersFrom n xs) i ⌝ }
+{
+    xs[i]
+}
