@@ -1,7 +1,7 @@
 // Rules: whether a plan passes a pattern, and the first pattern that it does not pass.
-use crate::point::truth;
 use crate::Pattern;
 use crate::Plan;
+use crate::point::truth;
 ghost use mathlib.Core.Path.{_≡_};
 ghost use Prim.Native.Nat.{_+_, _^_, _<_};
 ghost use lib.ListN.{length};
