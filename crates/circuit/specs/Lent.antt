@@ -59,8 +59,8 @@ abbrev pub wishesOf : (first second third : List ℕ) → List Clause
 wishesOf = rows clauseOf
 
 -- the sheet with a switches and these wishes
-abbrev pub wishing : (a : ℕ) → List Clause → Sheet
-wishing a ws = sheet a 0 [] [] ws
+abbrev pub wishSheet : (a : ℕ) → List Clause → Sheet
+wishSheet a ws = sheet a 0 [] [] ws
 
 -- columns that a sheet may have for wishes
 pub record Clauses (a : ℕ) (first second third : List ℕ) : Type 0 where

@@ -4,3 +4,4 @@ pub mod Points
 pub mod Patterns
 pub mod Literals
 pub mod Wishes
+pub mod Sheets

@@ -1,3 +1,4 @@
+// Points: the truth of switches, faults and gates.
 use crate::Pattern;
 use crate::Plan;
 ghost use mathlib.Core.List.{[]};
@@ -45,9 +46,9 @@ fn decides(k: u8, x: bool) -> bool
     if k == AND { !x } else { x }
 }
 
-// The truth of a point: a digit of the plan or the pattern, or by recursion over the gates, where
-// the second point of a gate is looked at only if the first does not decide. The slices are behind
-// references, so that a call passes one word for each.
+// The truth of a point by recursion over the gates; the second point of a gate is looked at only if
+// the first does not decide. The slices stand behind references, so that a call passes one word for
+// each: a slice by itself is copied at every call.
 fn truth_at(
     kind: &&[u8],
     left: &&[u32],
@@ -80,6 +81,7 @@ fn truth_at(
     truth_at(kind, left, right, a, f, plan, pattern, right[i])
 }
 
+// The truth of a point of lent gates.
 pub fn truth(
     kind: &[u8],
     left: &[u32],

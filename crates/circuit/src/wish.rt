@@ -1,21 +1,20 @@
 // Wishes: which are kept, which say the same as an earlier one, and what a plan costs.
 use crate::Plan;
 use crate::point::digit;
-ghost use mathlib.Core.Bool.{cond};
 ghost use mathlib.Core.List.{[], _∷_, _++_};
 ghost use mathlib.Core.Path.{_≡_};
 ghost use Prim.Native.Nat.{_+_, _≤_, _<_};
 ghost use lib.ListN.{length};
 ghost use Rattle.scope.specs.Sheet.{mostSwitches, mostWishes, All, Among, Wish};
-ghost use Rattle.scope.specs.Meaning.{any, keeps, within, sameSet, switchOn};
+ghost use Rattle.scope.specs.Meaning.{keeps, within, sameSet, switchOn};
 ghost use Rattle.scope.specs.Meaning as meaning;
-ghost use Rattle.circuit.specs.Lent.{literalsOf, clauseOf, wishesOf, wishing, Columns, Clauses, listed};
-ghost use Rattle.circuit.specs.Steps.{wish, earlier};
+ghost use Rattle.circuit.specs.Lent.{literalsOf, clauseOf, wishesOf, wishSheet, Columns, Clauses, listed};
+ghost use Rattle.circuit.specs.Steps.{repeats, withNext};
 
 // Whether the literal with this code is true; no literal is not.
 fn literal_true(code: u32, a: u32, plan: Plan) -> bool
     requires { ⌜ (a ≤ mostSwitches) × All (λ l. Among a (l .size)) (literalsOf code) ⌝ }
-    ensures { λ r. ⌜ r ≡ keeps (switchOn (wishing a []) (plan .0)) (literalsOf code) ⌝ }
+    ensures { λ r. ⌜ r ≡ keeps (switchOn (wishSheet a []) (plan .0)) (literalsOf code) ⌝ }
 {
     if code == 0 {
         return false;
@@ -30,7 +29,7 @@ fn literal_true(code: u32, a: u32, plan: Plan) -> bool
 // Whether a wish is kept, by the codes of its literals.
 pub fn kept(x: u32, y: u32, z: u32, a: u32, plan: Plan) -> bool
     requires { ⌜ (a ≤ mostSwitches) × Wish a (clauseOf x y z) ⌝ }
-    ensures { λ r. ⌜ r ≡ meaning.kept (wishing a []) (plan .0) (clauseOf x y z) ⌝ }
+    ensures { λ r. ⌜ r ≡ meaning.kept (wishSheet a []) (plan .0) (clauseOf x y z) ⌝ }
 {
     if literal_true(x, a, plan) {
         return true;
@@ -83,7 +82,7 @@ fn same_set(x: u32, y: u32, z: u32, u: u32, v: u32, w: u32) -> bool
 // Whether an earlier wish has the set of wish i.
 fn repeated(first: &[u32], second: &[u32], third: &[u32], i: usize) -> bool
     requires { ⌜ Columns mostWishes (now first) (now second) (now third) × (i < length (now first)) ⌝ }
-    ensures { λ r. ⌜ r ≡ any (sameSet (wish (now (first .entry)) (now (second .entry)) (now (third .entry)) i)) (earlier (now (first .entry)) (now (second .entry)) (now (third .entry)) i) ⌝ }
+    ensures { λ r. ⌜ r ≡ repeats (now (first .entry)) (now (second .entry)) (now (third .entry)) i ⌝ }
 {
     let mut j = i;
     while 0 < j {
@@ -119,7 +118,7 @@ fn with_wish(w: Wishes, x: u32, y: u32, z: u32) -> Wishes
 // With wish i, unless it repeats an earlier one.
 fn with_next(w: Wishes, first: &[u32], second: &[u32], third: &[u32], i: usize) -> Wishes
     requires { ⌜ (w .count ≤ i) × Columns mostWishes (now first) (now second) (now third) × (i < length (now first)) ⌝ }
-    ensures { λ r. ⌜ (r .count ≤ i + 1) × (listed r ≡ cond (any (sameSet (wish (now (first .entry)) (now (second .entry)) (now (third .entry)) i)) (earlier (now (first .entry)) (now (second .entry)) (now (third .entry)) i)) (listed w) (listed w ++ wish (now (first .entry)) (now (second .entry)) (now (third .entry)) i ∷ [])) ⌝ }
+    ensures { λ r. ⌜ (r .count ≤ i + 1) × (listed r ≡ withNext (now (first .entry)) (now (second .entry)) (now (third .entry)) (listed w) i) ⌝ }
 {
     if repeated(first, second, third, i) {
         return w;
@@ -151,7 +150,7 @@ pub fn distinct(first: &[u32], second: &[u32], third: &[u32]) -> Wishes
 // How many of these wishes a plan breaks.
 pub fn broken(first: &[u32], second: &[u32], third: &[u32], a: u32, plan: Plan) -> u32
     requires { ⌜ Clauses a (now first) (now second) (now third) ⌝ }
-    ensures { λ r. ⌜ (r ≡ meaning.broken (switchOn (wishing a []) (plan .0)) (wishesOf (now (first .entry)) (now (second .entry)) (now (third .entry)))) × (r ≤ length (now (first .entry))) ⌝ }
+    ensures { λ r. ⌜ (r ≡ meaning.broken (switchOn (wishSheet a []) (plan .0)) (wishesOf (now (first .entry)) (now (second .entry)) (now (third .entry)))) × (r ≤ length (now (first .entry))) ⌝ }
 {
     let mut count: u32 = 0;
     let mut i = 0;
@@ -167,7 +166,7 @@ pub fn broken(first: &[u32], second: &[u32], third: &[u32], a: u32, plan: Plan) 
 // What a plan costs: the broken wishes, repeats left out.
 pub fn cost(first: &[u32], second: &[u32], third: &[u32], a: u32, plan: Plan) -> u32
     requires { ⌜ Clauses a (now first) (now second) (now third) ⌝ }
-    ensures { λ r. ⌜ r ≡ meaning.cost (wishing a (wishesOf (now (first .entry)) (now (second .entry)) (now (third .entry)))) (plan .0) ⌝ }
+    ensures { λ r. ⌜ r ≡ meaning.cost (wishSheet a (wishesOf (now (first .entry)) (now (second .entry)) (now (third .entry)))) (plan .0) ⌝ }
 {
     let w = distinct(first, second, third);
     let n = w.count;

@@ -4,14 +4,14 @@ use Prim.Native.Char.{code}
 use native.Mathlib.Nat.{add-zero}
 use native.Mathlib.Numerals.{add-one}
 use native.Mathlib.Omega.{arith}
-use mathlib.Core.Bool.{Bool, true, false, cond}
+use mathlib.Core.Bool.{Bool, true, false}
 use mathlib.Core.List.{List, [], _∷_, _++_}
 use mathlib.Core.Logic.{_≢_}
 use mathlib.Core.Path.{_≡_, refl, sym, ap, subst, _∙_}
 use lib.Dec.{eqb}
 use lib.ListN.{length, getD, take, drop, set}
 use lib.Seq.{length-take-le, drop-cons, take-suc-set}
-use borrow.Author.Tests.{eqb-true}
+use borrow.Author.Tests.{eqb-true, eqb-false}
 use Rattle.scope.specs.Sheet.{Gate, All, Among, Names, Ordered}
 use Rattle.circuit.specs.Lent.{rows, Columns, gateOf}
 
@@ -76,21 +76,20 @@ ordered-at n [] d i o h = absurd (omega arith)
 ordered-at n (g ∷ gs) d zero o h = rw add-zero (o .0)
 ordered-at n (g ∷ gs) d (suc i) o h = let e : suc n + i ≡ n + suc i = omega arith in subst (λ m. Names m (getD gs i d)) e (ordered-at (suc n) gs d i (o .1) (omega arith))
 
+-- a gate by its kind
+module _ (P : Gate → Type 0) (k p q : ℕ) where
+  pub by-kind : (k ≡ code "N" → P (Gate.not p)) → (k ≢ code "N" → k ≡ code "A" → P (Gate.and p q)) → (k ≢ code "N" → k ≢ code "A" → P (Gate.or p q)) → P (gateOf k p q)
+  unfolding gateOf
+  by-kind n a o = go (eqb k (code "N")) (eqb k (code "A")) refl refl
+    where
+      go : (s t : Bool) → eqb k (code "N") ≡ s → eqb k (code "A") ≡ t → P (gateOf k p q)
+      go true t e f = rw e (n (eqb-true k (code "N") e))
+      go false true e f = rw (e, f) (a (eqb-false k (code "N") e) (eqb-true k (code "A") f))
+      go false false e f = rw (e, f) (o (eqb-false k (code "N") e) (eqb-false k (code "A") f))
+
 -- every gate names its first point, and all but not its second
 pub names-left : (n k p q : ℕ) → Names n (gateOf k p q) → Among n p
-unfolding gateOf
-names-left n k p q = go (eqb k (code "N")) (eqb k (code "A"))
-  where
-    go : (s t : Bool) → Names n (cond s (Gate.not p) (cond t (Gate.and p q) (Gate.or p q))) → Among n p
-    go true t h = h
-    go false true h = h .0
-    go false false h = h .0
+names-left n k p q = by-kind (λ g. Names n g → Among n p) k p q (λ e h. h) (λ e f h. h .0) (λ e f h. h .0)
 
 pub names-right : (n k p q : ℕ) → k ≢ code "N" → Names n (gateOf k p q) → Among n q
-unfolding gateOf
-names-right n k p q e = go (eqb k (code "N")) (eqb k (code "A")) refl
-  where
-    go : (s t : Bool) → eqb k (code "N") ≡ s → Names n (cond s (Gate.not p) (cond t (Gate.and p q) (Gate.or p q))) → Among n q
-    go true t f h = absurd (e (eqb-true k (code "N") f))
-    go false true f h = h .1
-    go false false f h = h .1
+names-right n k p q d = by-kind (λ g. Names n g → Among n q) k p q (λ e h. absurd (d e)) (λ e f h. h .1) (λ e f h. h .1)

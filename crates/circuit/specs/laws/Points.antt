@@ -2,46 +2,40 @@
 use Prim.Native.Nat.{ℕ, suc, _+_, _-_, _≤_, _<_}
 use Prim.Native.Char.{code}
 use native.Mathlib.Omega.{arith}
-use mathlib.Core.Bool.{Bool, true, false, cond, not}
+use mathlib.Core.Bool.{Bool, true, false, not}
 use mathlib.Core.List.{List, []}
 use mathlib.Core.Logic.{_≢_}
-use mathlib.Core.Path.{_≡_, refl, sym, ap, _∙_}
-use lib.Dec.{eqb}
+use mathlib.Core.Path.{_≡_, sym, ap, _∙_}
 use lib.ListN.{length, getD}
-use borrow.Author.Tests.{ne-eqb}
+use borrow.Author.Tests.{eq-eqb, ne-eqb, not-true, not-false}
 use Rattle.scope.specs.Sheet.{Gate, Sheet, Among, Names}
 use Rattle.scope.specs.Meaning.{bits, nth, gateTruth, switchOn, truth}
-use Rattle.scope.specs.laws.Tests.{clash}
 use Rattle.scope.specs.laws.Points.{truth-switch, truth-fault, truth-gate}
 use Rattle.circuit.specs.Lent.{gateOf, gatesOf, circuit, Gates}
 use Rattle.circuit.specs.Steps.{decidesOf}
-use Rattle.circuit.specs.laws.Columns.{length-rows, row-at, ordered-at, names-left, names-right}
+use Rattle.circuit.specs.laws.Columns.{length-rows, row-at, ordered-at, by-kind, names-left, names-right}
 
 -- ---- a gate of kind k, by the truth x of its first point and y of its second
 module _ (v : ℕ → Bool) (k p q : ℕ) where
+  abbrev Is : Bool → Gate → Type 0
+  Is z g = z ≡ gateTruth v g
+
   gate-not : (x : Bool) → k ≡ code "N" → x ≡ v p → not x ≡ gateTruth v (gateOf k p q)
-  unfolding gateOf
-  gate-not x e h = rw (e, h)
+  gate-not x e h = by-kind (Is (not x)) k p q (λ n. ap not h) (λ n a. absurd (n e)) (λ n a. absurd (n e))
 
   gate-first : (x : Bool) → k ≢ code "N" → decidesOf k x ≡ true → x ≡ v p → x ≡ gateTruth v (gateOf k p q)
-  unfolding gateOf decidesOf
-  gate-first x n d h = rw (ne-eqb k (code "N") n) (go (eqb k (code "A")) x d h)
-    where
-      go : (t x : Bool) → cond t (not x) x ≡ true → x ≡ v p → x ≡ gateTruth v (cond t (Gate.and p q) (Gate.or p q))
-      go true true d h = clash d refl
-      go true false d h = rw (sym h)
-      go false true d h = rw (sym h)
-      go false false d h = clash d refl
+  unfolding decidesOf
+  gate-first x n d h = by-kind (Is x) k p q
+      (λ e. absurd (n e))
+      (λ e a. rw (← h, not-true x (rw (eq-eqb k (code "A") a) at d)))
+      (λ e a. rw (← h, rw (ne-eqb k (code "A") a) at d))
 
   gate-second : (x y : Bool) → k ≢ code "N" → decidesOf k x ≡ false → x ≡ v p → y ≡ v q → y ≡ gateTruth v (gateOf k p q)
-  unfolding gateOf decidesOf
-  gate-second x y n d h g = rw (ne-eqb k (code "N") n) (go (eqb k (code "A")) x d h)
-    where
-      go : (t x : Bool) → cond t (not x) x ≡ false → x ≡ v p → y ≡ gateTruth v (cond t (Gate.and p q) (Gate.or p q))
-      go true true d h = rw (sym h) g
-      go true false d h = clash refl d
-      go false true d h = clash refl d
-      go false false d h = rw (sym h) g
+  unfolding decidesOf
+  gate-second x y n d h g = by-kind (Is y) k p q
+      (λ e. absurd (n e))
+      (λ e a. rw (← h, not-false x (rw (eq-eqb k (code "A") a) at d)) g)
+      (λ e a. rw (← h, rw (ne-eqb k (code "A") a) at d) g)
 
 -- point p is gate i of n, counted from 0, after a switches and f faults
 pub record IsGate (a f n p i : ℕ) : Type 0 where

@@ -4,7 +4,7 @@ use native.Mathlib.Numerals.{add-one}
 use native.Mathlib.Omega.{arith}
 use mathlib.Core.Bool.{Bool, true, false, cond}
 use mathlib.Core.List.{List, [], _∷_, _++_, append-assoc, append-nil}
-use mathlib.Core.Path.{_≡_, refl, sym, ap, subst, _∙_}
+use mathlib.Core.Path.{_≡_, refl, sym, subst}
 use lib.ListN.{length, getD, drop, drop-of-length-le}
 use Rattle.scope.specs.Sheet.{Clause, All, Wish}
 use Rattle.scope.specs.Meaning.{any, keeps, sameSet, distinct, broken}

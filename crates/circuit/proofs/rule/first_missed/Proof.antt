@@ -1,8 +1,7 @@
-use Prim.Native.Nat.{ℕ, _-_, _≤_, _<_}
+use Prim.Native.Nat.{ℕ, _-_, _<_}
 use native.Mathlib.Omega.{arith}
 use mathlib.Core.Bool.{true}
 use mathlib.Core.Path.{_≡_, sym, _∙_}
-use denote.Ref.{now}
 use borrow.Author.Count.{below-more}
 use borrow.Author.Tests.{not-true, not-false}
 use borrow.Author.Needs.{needs}
@@ -14,7 +13,7 @@ use Rattle.circuit.proofs.rule.first_missed.Tie as tie
 
 abbrev Inv-loop : tie.InvT-loop
 Inv-loop kind left right rules a f plan end i₀ i =
-    (i ≤ end) × ((k : ℕ) → k < i → passes (circuit a f kind left right rules) (plan .0) k ≡ true)
+    (k : ℕ) → k < i → passes (circuit a f kind left right rules) (plan .0) k ≡ true
 
 abbrev μ-loop : tie.MeasureT-loop
 μ-loop kind left right rules a f plan end i₀ i = end - i
@@ -23,14 +22,14 @@ power-requires : tie.Need-power-requires Inv-loop μ-loop
 power-requires c κs = search needs
 
 loop-holds : tie.Need-loop-holds Inv-loop μ-loop
-loop-holds c = (search needs, λ k h. absurd (omega arith))
+loop-holds c = λ k h. absurd (omega arith)
 
 passes-requires : tie.Need-passes-requires Inv-loop μ-loop
 passes-requires c κs = search needs
 
 returns : tie.Need-returns Inv-loop μ-loop
 returns c =
-    missed-first _ _ _ (omega arith) (sym (c .before .passes .ensures) ∙ not-true _ (c .if1 .taken)) (c .before .before .before .loop .inv .1)
+    missed-first _ _ _ (omega arith) (sym (c .before .passes .ensures) ∙ not-true _ (c .if1 .taken)) (c .before .before .before .loop .inv)
 
 add-i : tie.Need-add-i Inv-loop μ-loop
 add-i c = search needs
@@ -40,11 +39,11 @@ loop-less c = search needs
 
 loop-again : tie.Need-loop-again Inv-loop μ-loop
 loop-again c =
-    (search needs, below-more _ _ (c .before .before .before .loop .inv .1) (sym (c .before .passes .ensures) ∙ not-false _ (c .if1 .left)))
+    below-more _ _ (c .before .before .before .loop .inv) (sym (c .before .passes .ensures) ∙ not-false _ (c .if1 .left))
 
 returns-2 : tie.Need-returns-2 Inv-loop μ-loop
 returns-2 c =
-    missed-none _ _ (λ q h. c .before .loop .inv .1 q (omega arith))
+    missed-none _ _ (λ q h. c .before .loop .inv q (omega arith))
 
 pub first-missed-spec : {M : Type 1} → statement M
 first-missed-spec =

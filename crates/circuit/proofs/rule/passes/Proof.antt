@@ -1,4 +1,4 @@
-use Prim.Native.Nat.{_+_, _-_, _≤_}
+use Prim.Native.Nat.{_+_, _-_}
 use mathlib.Core.Path.{_≡_, refl, sym, _∙_}
 use lib.ListN.{length, drop}
 use denote.Ref.{now}
@@ -15,14 +15,14 @@ use Rattle.circuit.proofs.rule.passes.Tie as tie
 abbrev Inv-loop : tie.InvT-loop
 Inv-loop kind left right rules a f plan pattern i₀ i =
     let t = circuit a f kind left right rules in
-    (i ≤ length rules) × (all (truth t (plan .0) (pattern .0)) (drop i rules) ≡ passes t (plan .0) (pattern .0))
+    all (truth t (plan .0) (pattern .0)) (drop i rules) ≡ passes t (plan .0) (pattern .0)
 
 abbrev μ-loop : tie.MeasureT-loop
 μ-loop kind left right rules a f plan pattern i₀ i = length rules - i
 
 loop-holds : tie.Need-loop-holds Inv-loop μ-loop
 unfolding passes
-loop-holds c = (search needs, refl)
+loop-holds c = refl
 
 mul-truth : tie.Need-mul-truth Inv-loop μ-loop
 mul-truth c = search needs
@@ -39,7 +39,7 @@ truth-requires c κs =
 returns : tie.Need-returns Inv-loop μ-loop
 unfolding truth
 returns c =
-    all-stop _ _ _ (c .before .before .before .loop-test .taken) (sym (c .before .truth .ensures) ∙ not-true _ (c .if1 .taken)) ∙ c .before .before .before .before .loop .inv .1
+    all-stop _ _ _ (c .before .before .before .loop-test .taken) (sym (c .before .truth .ensures) ∙ not-true _ (c .if1 .taken)) ∙ c .before .before .before .before .loop .inv
 
 add-i : tie.Need-add-i Inv-loop μ-loop
 add-i c = search needs
@@ -50,10 +50,10 @@ loop-less c = search needs
 loop-again : tie.Need-loop-again Inv-loop μ-loop
 unfolding truth
 loop-again c =
-    (search needs, all-more _ _ _ (c .before .before .before .loop-test .taken) (sym (c .before .truth .ensures) ∙ not-false _ (c .if1 .left)) ∙ c .before .before .before .before .loop .inv .1)
+    all-more _ _ _ (c .before .before .before .loop-test .taken) (sym (c .before .truth .ensures) ∙ not-false _ (c .if1 .left)) ∙ c .before .before .before .before .loop .inv
 
 returns-2 : tie.Need-returns-2 Inv-loop μ-loop
-returns-2 c = all-end _ _ _ (c .loop-test .left) ∙ c .before .loop .inv .1
+returns-2 c = all-end _ _ _ (c .loop-test .left) ∙ c .before .loop .inv
 
 pub passes-spec : {M : Type 1} → statement M
 passes-spec =

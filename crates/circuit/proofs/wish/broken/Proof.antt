@@ -2,12 +2,12 @@ use Prim.Native.Nat.{_+_, _-_, _≤_}
 use native.Mathlib.Omega.{arith}
 use mathlib.Core.List.{[]}
 use mathlib.Core.Logic.{⊎-elim}
-use mathlib.Core.Path.{_≡_, refl, sym, _∙_}
+use mathlib.Core.Path.{_≡_, sym, _∙_}
 use lib.ListN.{length, drop}
 use borrow.Author.Tests.{not-true, not-false}
 use borrow.Author.Needs.{needs}
 use Rattle.scope.specs.Meaning.{kept, broken, switchOn}
-use Rattle.circuit.specs.Lent.{wishesOf, wishing}
+use Rattle.circuit.specs.Lent.{wishesOf, wishSheet}
 use Rattle.circuit.specs.Steps.{wish}
 use Rattle.circuit.specs.laws.Wishes.{wish-at, broken-kept, broken-more, broken-end}
 use Rattle.circuit.proofs.wish.broken.Statement.{statement}
@@ -15,7 +15,7 @@ use Rattle.circuit.proofs.wish.broken.Tie as tie
 
 abbrev Inv-loop : tie.InvT-loop
 Inv-loop first second third a plan count₀ i₀ count i =
-    let v = switchOn (wishing a []) (plan .0) in
+    let v = switchOn (wishSheet a []) (plan .0) in
     let ws = wishesOf first second third in
     (i ≤ length first) × (count ≤ i) × (count + broken v (drop i ws) ≡ broken v ws)
 
@@ -61,7 +61,7 @@ loop-again : tie.Need-loop-again Inv-loop μ-loop
 unfolding kept wish
 loop-again c =
     let s = c .before .before .before .before .before .before .before .before .before .before in
-    let v = switchOn (wishing (s .args .a) []) (s .args .plan .0) in
+    let v = switchOn (wishSheet (s .args .a) []) (s .args .plan .0) in
     let i = c .before .before .before .before .before .before .loop .i in
     let l = c .before .before .before .before .before .loop-test .taken in
     let e = sym (c .before .kept .ensures) in
@@ -73,7 +73,7 @@ loop-again c =
 returns : tie.Need-returns Inv-loop μ-loop
 returns c =
     let s = c .before .before .before .before .before in
-    let v = switchOn (wishing (s .args .a) []) (s .args .plan .0) in
+    let v = switchOn (wishSheet (s .args .a) []) (s .args .plan .0) in
     (omega (arith, broken-end (s .pre .columns) v (c .before .loop .i) (c .loop-test .left)), omega arith)
 
 pub broken-spec : {M : Type 1} → statement M

@@ -1,4 +1,3 @@
-use Prim.Native.Nat.{_≤_}
 use native.Mathlib.Omega.{arith}
 use mathlib.Core.List.{[]}
 use mathlib.Core.Path.{_≡_, sym, ap, subst, _∙_}
@@ -6,10 +5,11 @@ use lib.ListN.{length}
 use lib.Seq.{length-take-le}
 use borrow.Author.Needs.{needs}
 use Rattle.scope.specs.Sheet.{All, Wish}
-use Rattle.scope.specs.Meaning.{broken, switchOn, cost}
-use Rattle.circuit.specs.Lent.{wishing}
+use Rattle.scope.specs.Meaning.{broken, switchOn}
+use Rattle.circuit.specs.Lent.{wishSheet}
 use Rattle.circuit.specs.laws.Columns.{front}
 use Rattle.circuit.specs.laws.Wishes.{all-distinct}
+use Rattle.circuit.specs.laws.Sheets.{broken-cost}
 use Rattle.circuit.proofs.wish.cost.Statement.{statement}
 use Rattle.circuit.proofs.wish.cost.Tie as tie
 
@@ -64,10 +64,10 @@ broken-requires c κs =
     }
 
 returns : tie.Need-returns
-unfolding cost switchOn
 returns c =
     let a = c .before .before .before .before .before .before .before .before .before .before .before .args in
-    c .broken .ensures .0 ∙ ap (broken (switchOn (wishing (a .a) []) (a .plan .0))) (c .before .before .before .before .before .before .before .distinct .ensures .1)
+    let d = c .before .before .before .before .before .before .before .distinct in
+    c .broken .ensures .0 ∙ ap (broken (switchOn (wishSheet (a .a) []) (a .plan .0))) (d .ensures .1) ∙ broken-cost _ _
 
 pub cost-spec : {M : Type 1} → statement M
 cost-spec =

@@ -1,4 +1,3 @@
-use mathlib.Core.Path.{refl}
 use borrow.Author.Tests.{eq-eqb, ne-eqb}
 use Rattle.circuit.specs.Lent.{literalsOf}
 use Rattle.circuit.specs.laws.Literals.{within-codes}

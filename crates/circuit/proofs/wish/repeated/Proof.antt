@@ -1,4 +1,5 @@
-use Prim.Native.Nat.{_-_, _≤_}
+use Prim.Native.Nat.{_≤_}
+use native.Mathlib.Omega.{arith}
 use mathlib.Core.Path.{_≡_, refl, sym, _∙_}
 use borrow.Author.Needs.{needs}
 use Rattle.scope.specs.Meaning.{any, sameSet}
@@ -64,7 +65,7 @@ returns : tie.Need-returns Inv-loop μ-loop
 unfolding wish
 returns c =
     let s = c .before .before .before .before .before .before .before .before .before .before .before .before .before in
-    repeat-stop (s .pre .0) _ _ (c .before .before .before .before .before .before .before .before .loop-test .taken) (sym (c .before .same-set .ensures) ∙ c .if1 .taken) ∙ c .before .before .before .before .before .before .before .before .before .loop .inv .1
+    repeat-stop (s .pre .0) _ (c .before .before .before .before .before .before .before .before .before .loop .j) (omega arith) (sym (c .before .same-set .ensures) ∙ c .if1 .taken) ∙ c .before .before .before .before .before .before .before .before .before .loop .inv .1
 
 loop-less : tie.Need-loop-less Inv-loop μ-loop
 loop-less c = search needs
@@ -73,7 +74,7 @@ loop-again : tie.Need-loop-again Inv-loop μ-loop
 unfolding wish
 loop-again c =
     let s = c .before .before .before .before .before .before .before .before .before .before .before .before .before in
-    (search needs, repeat-more (s .pre .0) _ _ (c .before .before .before .before .before .before .before .before .loop-test .taken) (sym (c .before .same-set .ensures) ∙ c .if1 .left) ∙ c .before .before .before .before .before .before .before .before .before .loop .inv .1)
+    (search needs, repeat-more (s .pre .0) _ (c .before .before .before .before .before .before .before .before .before .loop .j) (omega arith) (sym (c .before .same-set .ensures) ∙ c .if1 .left) ∙ c .before .before .before .before .before .before .before .before .before .loop .inv .1)
 
 returns-2 : tie.Need-returns-2 Inv-loop μ-loop
 returns-2 c =
