@@ -15,8 +15,8 @@ use Rattle.scope.specs.Sheet.{Number, Sheet, Letter, H, N, A, O, R, W, Z, mostG
 use Rattle.scope.specs.Sheet as scope
 use Rattle.scope.specs.Reading.{literals, zeros, when, joined, rows, tests, add, lengthOk, lineOf, lineSize, lineCount, mostBytes, lineAt, testsAt, read}
 use Rattle.scope.specs.Causes.{Met, before, Passed, size as wrong-size, line}
-use Rattle.scope.specs.laws.Tests.{clash, both}
-use Rattle.scope.specs.laws.Refusals.{up-to, cause-refuses, no-cause-accepts}
+use Rattle.scope.specs.laws.Tests.{clash, both, up-to}
+use Rattle.scope.specs.laws.Refusals.{cause-refuses, no-cause-accepts}
 use Rattle.sheet.specs.Tables.{tables, filled, refusal, outcome}
 use Rattle.sheet.specs.Lines.{letterFrom, numbersFrom, lineFrom}
 use Rattle.sheet.specs.Steps.{Counted, Few, Fault, RoomFor, Room, Sized}
