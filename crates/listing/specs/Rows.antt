@@ -144,3 +144,58 @@ module _ {A : Type 0} (f : ℕ → A → Row) where
 -- numbers that fit a field
 abbrev pub Small : List ℕ → Type 0
 Small l = (i : ℕ) → i < length l → getD l i 0 < 100000
+
+-- ---- a whole listing
+
+-- the rows rs put at `at`, and where they end
+pub record Wrote (out : List ℕ) (at : ℕ) (rs : List Row) (now : List ℕ) (end : ℕ) : Type 0 where
+  pub bytes : now ≡ put out at (rowsBytes rs)
+  pub size : length (rowsBytes rs) ≡ 17 * length rs
+  pub end-is : end ≡ at + 17 * length rs
+
+rows-append : (rs qs : List Row) → rowsBytes (rs ++ qs) ≡ rowsBytes rs ++ rowsBytes qs
+unfolding rowsBytes
+rows-append [] qs = refl
+rows-append (r ∷ rs) qs = ap (λ s. rowBytes r ++ s) (rows-append rs qs) ∙ sym (append-assoc (rowBytes r) (rowsBytes rs) (rowsBytes qs))
+
+length-each : {A : Type 0} (f : ℕ → A → Row) (i : ℕ) (l : List A) → length (each f i l) ≡ length l
+unfolding each
+length-each f i [] = refl
+length-each f i (a ∷ l) = ap suc (length-each f (suc i) l)
+
+pub wrote-none : (out : List ℕ) (at : ℕ) → Wrote out at [] out at
+unfolding rowsBytes put
+wrote-none out at = record {
+  bytes = sym (ap (λ m. take at out ++ [] ++ drop m out) (add-zero at) ∙ ap (λ s. s ++ drop at out) (append-nil (take at out)) ∙ take-append-drop at out);
+  size = refl;
+  end-is = omega arith;
+}
+
+pub wrote-row : (out : List ℕ) (at : ℕ) (r : Row) (row now : List ℕ) (end : ℕ) → row ≡ rowBytes r → length row ≡ 17 → now ≡ put out at row → end ≡ at + 17 → Wrote out at (r ∷ []) now end
+unfolding rowsBytes
+wrote-row out at r row now end e n b f = record {
+  bytes = b ∙ ap (put out at) (e ∙ sym (append-nil (rowBytes r)));
+  size = ap length (append-nil (rowBytes r) ∙ sym e) ∙ n;
+  end-is = f;
+}
+
+pub wrote-each : {A : Type 0} (f : ℕ → A → Row) (out : List ℕ) (at : ℕ) (l : List A) (k : ℕ) (now : List ℕ) (end : ℕ) → Put f out at l k now → k ≡ length l → end ≡ at + 17 * k → Wrote out at (each f 1 l) now end
+wrote-each f out at l k now end p h e =
+    let t : take k l ≡ l = ap (λ m. take m l) h ∙ take-length l in
+    let n : length (each f 1 l) ≡ k = length-each f 1 l ∙ sym h in
+    record {
+      bytes = p .bytes ∙ ap (λ m. put out at (rowsBytes (each f 1 m))) t;
+      size = ap (λ m. length (rowsBytes (each f 1 m))) (sym t) ∙ p .size ∙ ap (λ m. 17 * m) (sym n);
+      end-is = e ∙ ap (λ m. at + 17 * m) (sym n);
+    }
+
+pub wrote-more : (out : List ℕ) (at : ℕ) (rs qs : List Row) (middle now : List ℕ) (m end : ℕ) → Wrote out at rs middle m → Wrote middle m qs now end → m ≤ length out → Wrote out at (rs ++ qs) now end
+wrote-more out at rs qs middle now m end p q room = record {
+  bytes = q .bytes ∙ ap₂ (λ o k. put o k (rowsBytes qs)) (p .bytes) (p .end-is ∙ ap (λ k. at + k) (sym (p .size)))
+      ∙ put-more out at (rowsBytes rs) (omega (arith, p .size, p .end-is)) (rowsBytes qs) ∙ ap (put out at) (sym (rows-append rs qs));
+  size = ap length (rows-append rs qs) ∙ omega (arith, length-append (rowsBytes rs) (rowsBytes qs), length-append rs qs, p .size, q .size);
+  end-is = omega (arith, p .end-is, q .end-is, length-append rs qs);
+}
+
+pub wrote-length : (out : List ℕ) (at : ℕ) (rs : List Row) (now : List ℕ) (end : ℕ) → Wrote out at rs now end → end ≤ length out → length now ≡ length out
+wrote-length out at rs now end p room = ap length (p .bytes) ∙ length-put out at (rowsBytes rs) (omega (arith, p .size, p .end-is))

@@ -1,0 +1,106 @@
+use Prim.Native.Nat.{_+_}
+use mathlib.Core.Bool.{false}
+use Rattle.scope.specs.laws.Points.{length-bits}
+use Prim.Native.Nat.{_≤_, _-_}
+use mathlib.Core.Path.{_≡_, refl, sym, ap, _∙_}
+use native.Mathlib.Omega.{arith}
+use lib.ListN.{length, getD}
+use borrow.Author.Needs.{needs}
+use Rattle.scope.specs.Meaning.{bits}
+use Rattle.scope.specs.Program.{switchRow}
+use Rattle.listing.specs.Rows.{Put, put-none, put-next, rowBytes}
+use Rattle.listing.proofs.rows.put_switches.Statement.{statement}
+use Rattle.listing.proofs.rows.put_switches.Tie as tie
+use Rattle.listing.proofs.rows.put_switches.Reads as reads
+use Rattle.listing.proofs.rows.put_switches.Lts as lts
+use Rattle.circuit.proofs.point.digit.Reads as digit-reads
+use Rattle.listing.proofs.row.put_row.Reads as put-row-reads
+use Rattle.listing.proofs.row.row.Reads as row-reads
+use Rattle.listing.proofs.rows.flag.Reads as flag-reads
+use Rattle.listing.proofs.rows.wide.Reads as wide-reads
+
+abbrev Inv-loop : tie.InvT-loop
+Inv-loop out₀ at a plan i₀ out i = (i ≤ a) × (length out ≡ length out₀) × Put switchRow out₀ at (bits a (plan .0)) i out
+
+abbrev μ-loop : tie.MeasureT-loop
+μ-loop out₀ at a plan i₀ out i = a - i
+
+loop-holds : tie.Need-loop-holds Inv-loop μ-loop
+loop-holds c = let a = c .before .args in (search needs, refl, put-none switchRow (a .out .now) (a .at) (bits (a .a) (a .plan .0)))
+
+add-digit : tie.Need-add-digit Inv-loop μ-loop
+add-digit c = search needs
+
+digit-requires : tie.Need-digit-requires Inv-loop μ-loop
+digit-requires c κs = search needs
+
+flag-requires : tie.Need-flag-requires Inv-loop μ-loop
+flag-requires c κs = search needs
+
+add-row : tie.Need-add-row Inv-loop μ-loop
+add-row c = search needs
+
+row-requires : tie.Need-row-requires Inv-loop μ-loop
+row-requires c κs = search needs
+
+wide-requires : tie.Need-wide-requires Inv-loop μ-loop
+wide-requires c κs = search needs
+
+mul-put-row : tie.Need-mul-put-row Inv-loop μ-loop
+mul-put-row c = search needs
+
+add-put-row : tie.Need-add-put-row Inv-loop μ-loop
+add-put-row c = search needs
+
+put-row-requires : tie.Need-put-row-requires Inv-loop μ-loop
+put-row-requires c κs = search needs
+
+add-i : tie.Need-add-i Inv-loop μ-loop
+add-i c = search needs
+
+loop-less : tie.Need-loop-less Inv-loop μ-loop
+loop-less c = search needs
+
+loop-again : tie.Need-loop-again Inv-loop μ-loop
+loop-again c =
+    let s = c .before .before .before .before .before .before .before .before .before in
+    let a = s .before .before .args in
+    let i = s .loop .i in
+    let d = c .before .before .before .before .before .before .before .digit in
+    let r = c .before .before .before .before .before .row in
+    let o = c .before .before .put-row in
+    let w : length (r .result) ≡ 17 = search needs in
+    let n : length (o .last .0) ≡ length (s .loop .out) = search needs in
+    let e : i + 1 - 1 ≡ i = omega arith in (
+      omega arith,
+      n ∙ s .loop .inv .1,
+      put-next switchRow (a .out .now) (a .at) (bits (a .a) (a .plan .0)) i (s .loop .out) (o .last .0) (r .result) false (d .result) (s .loop .inv .2) (rw (length-bits (a .a) (a .plan .0)) (omega arith)) (sym (rw e at (d .ensures))) (omega arith) (rw (c .before .before .before .before .before .before .flag .ensures .0) at (r .ensures)) w (rw (c .before .before .before .wide .ensures) at (o .ensures)),
+    )
+
+same-length : tie.Need-same-length Inv-loop μ-loop
+same-length c = search needs
+
+returns : tie.Need-returns Inv-loop μ-loop
+returns c = let e : c .before .loop .i ≡ c .before .before .before .args .a = omega arith in rw e at (c .before .loop .inv .2)
+
+pub put-switches-spec : {M : Type 1} → statement M
+put-switches-spec =
+    tie.close
+    (tie.spec
+    Inv-loop
+    μ-loop
+    loop-holds
+    add-digit
+    digit-requires
+    flag-requires
+    add-row
+    row-requires
+    wide-requires
+    mul-put-row
+    add-put-row
+    put-row-requires
+    add-i
+    loop-less
+    loop-again
+    same-length
+    returns)
