@@ -70,9 +70,11 @@ pub record Clauses (a : ℕ) (first second third : List ℕ) : Type 0 where
 
 -- ---- answers
 
+-- none if all patterns are passed
 abbrev pub missedOf : Missed → Option ℕ
 missedOf Nothing = none
 missedOf (At p) = some (p .0)
 
+-- the first `count` rows
 abbrev pub listed : Wishes → List Clause
 listed w = wishesOf (take (w .count) (w .first)) (take (w .count) (w .second)) (take (w .count) (w .third))

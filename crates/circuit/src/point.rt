@@ -12,7 +12,7 @@ ghost use Rattle.scope.specs.Meaning as meaning;
 ghost use Rattle.circuit.specs.Lent.{circuit, Gates};
 ghost use Rattle.circuit.specs.Steps.{decidesOf};
 
-// The kinds of gates, by their letters; every other kind is an or.
+// The letters of gates; every other one is an or.
 const NOT: u8 = b'N';
 
 const AND: u8 = b'A';
