@@ -1,0 +1,20 @@
+use borrow.Author.Needs.{needs}
+use Rattle.planner.proofs.rating.rated.Statement.{statement}
+use Rattle.planner.proofs.rating.rated.Tie as tie
+use Rattle.planner.proofs.rating.rated.Reads as reads
+use Rattle.planner.proofs.rating.rated.Lts as lts
+
+enum-told : tie.Need-enum-told
+enum-told c = search needs
+
+enum-known-missed : tie.Need-enum-known-missed
+enum-known-missed c = search needs
+
+returns : tie.Need-returns
+returns c = cc
+
+returns-2 : tie.Need-returns-2
+returns-2 c = cc
+
+pub rated-spec : {M : Type 1} → statement M
+rated-spec = tie.close (tie.spec enum-told enum-known-missed returns returns-2)

@@ -1,0 +1,12 @@
+-- The figures that the jobs return, as the scope names them. Assumes nothing.
+use Prim.Native.Nat.{ℕ}
+use Rattle.scope.specs.Jobs.{Result}
+use Rattle.scope.specs.Jobs as jobs
+use Rattle.planner.specs.declared.outcome.Outcome.{Outcome}
+use Rattle.planner.specs.declared.rating.Rating.{Rating}
+
+abbrev pub resultOf : Outcome → Result
+resultOf r = record { number = r .number; place = r .place; plan = r .plan .0; cost = r .cost; length = r .length }
+
+abbrev pub ratingOf : Rating → jobs.Rating
+ratingOf r = record { number = r .number; place = r .place; cost = r .cost; sound = r .sound; pattern = r .pattern .0; length = r .length }

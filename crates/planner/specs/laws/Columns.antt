@@ -1,0 +1,183 @@
+-- The reader's tables, cut to their counts, are the columns of the sheet that was read. Assumes nothing.
+use Prim.Native.Nat.{ℕ, zero, suc, _+_, _-_, _*_, _/_, _%_, _≤_, _<_}
+use Prim.Native.Char.{code}
+use native.Mathlib.Omega.{arith}
+use mathlib.Core.Bool.{Bool, true, false, cond}
+use mathlib.Core.List.{List, [], _∷_, _++_, map}
+use mathlib.Core.Path.{_≡_, refl, sym, ap, ap₂, subst, _∙_}
+use lib.Dec.{eqb}
+use lib.ListN.{length, getD, take, replicate, length-append, length-map}
+use lib.Seq.{take-at}
+use borrow.Author.Tests.{eq-eqb, ne-eqb}
+use Rattle.scope.specs.Sheet.{Number, number, plus, Clause, Gate, Sheet, sheet, points, fieldCount, mostGates, mostRules, mostWishes, mostLiterals, All, Among, Ordered, Wish, Valid}
+use Rattle.scope.specs.Reading.{Read, accepted, refused, started, read}
+use Rattle.scope.specs.Meaning.{distinct, broken, switchOn, passes, truth, cost}
+use Rattle.scope.specs.Jobs.{task}
+use Rattle.circuit.specs.Lent.{Columns, rows, gateOf, gatesOf, literalsOf, clauseOf, wishesOf, Gates, Clauses, circuit}
+use Rattle.sheet.specs.declared.tables.Tables.{Tables}
+use Rattle.sheet.specs.Tables.{padded, kindOf, leftOf, rightOf, pointOf, literalCode, literalAt, tables, outcome}
+
+-- ---- what was coded is read again
+
+cut : {A : Type 0} (n : ℕ) (f : A → ℕ) (l : List A) → take (length l) (padded n f l) ≡ map f l
+unfolding padded
+cut n f l = take-at (map f l) (replicate (n - length l) 0) (length l) (length-map l f)
+
+gates-back : (gs : List Gate) → gatesOf (map kindOf gs) (map leftOf gs) (map rightOf gs) ≡ gs
+unfolding rows gateOf
+gates-back [] = refl
+gates-back (Gate.not p ∷ gs) = ap (λ l. Gate.not p ∷ l) (gates-back gs)
+gates-back (Gate.and p q ∷ gs) = ap (λ l. Gate.and p q ∷ l) (gates-back gs)
+gates-back (Gate.or p q ∷ gs) = ap (λ l. Gate.or p q ∷ l) (gates-back gs)
+
+literal-back : (x : Number) → 1 ≤ x .size → literalsOf (literalCode x) ≡ x ∷ []
+unfolding literalsOf
+literal-back x h = go (x .minus) (x .size) h
+  where
+    go : (m : Bool) (k : ℕ) → 1 ≤ k → literalsOf (literalCode (number m k)) ≡ number m k ∷ []
+    go true k h =
+        let half : (k * 2 + 1) / 2 ≡ k = omega arith in
+        rw (ne-eqb (k * 2 + 1) 0 (λ e. omega arith), eq-eqb ((k * 2 + 1) % 2) 1 (omega arith), half)
+    go false k h =
+        let half : k * 2 / 2 ≡ k = omega arith in
+        rw (ne-eqb (k * 2) 0 (λ e. omega arith), ne-eqb (k * 2 % 2) 1 (λ e. omega arith), half)
+
+clause-back : (a : ℕ) (w : Clause) → Wish a w → clauseOf (literalAt 0 w) (literalAt 1 w) (literalAt 2 w) ≡ w
+unfolding clauseOf literalsOf
+clause-back a [] h = refl
+clause-back a (x ∷ []) (n, (p, q)) = rw (literal-back x (p .0))
+clause-back a (x ∷ y ∷ []) (n, (p, (q, r))) = rw (literal-back x (p .0), literal-back y (q .0))
+clause-back a (x ∷ y ∷ z ∷ []) (n, (p, (q, (r, s)))) = rw (literal-back x (p .0), literal-back y (q .0), literal-back z (r .0))
+clause-back a (x ∷ y ∷ z ∷ v ∷ w) h = absurd (omega (arith, h .0))
+
+wishes-back : (a : ℕ) (ws : List Clause) → All (Wish a) ws → wishesOf (map (literalAt 0) ws) (map (literalAt 1) ws) (map (literalAt 2) ws) ≡ ws
+unfolding rows
+wishes-back a [] h = refl
+wishes-back a (w ∷ ws) (p, h) = ap₂ (λ v vs. v ∷ vs) (clause-back a w p) (wishes-back a ws h)
+
+map-point : (l : List ℕ) → map pointOf l ≡ l
+map-point [] = refl
+map-point (p ∷ l) = ap (λ r. p ∷ r) (map-point l)
+
+-- ---- the columns of an accepted sheet
+
+pub record Cut (t : Sheet) (u : Tables) : Type 0 where
+  pub number : u .number ≡ 0
+  pub switches : u .switches ≡ t .switches
+  pub faults : u .faults ≡ t .faults
+  pub kind : take (u .gates) (u .kind) ≡ map kindOf (t .gates)
+  pub left : take (u .gates) (u .left) ≡ map leftOf (t .gates)
+  pub right : take (u .gates) (u .right) ≡ map rightOf (t .gates)
+  pub rule : take (u .rules) (u .rule) ≡ t .rules
+  pub first : take (u .wishes) (u .first) ≡ map (literalAt 0) (t .wishes)
+  pub second : take (u .wishes) (u .second) ≡ map (literalAt 1) (t .wishes)
+  pub third : take (u .wishes) (u .third) ≡ map (literalAt 2) (t .wishes)
+
+pub cut-accepted : (t : Sheet) (u : Tables) (o : Read) → u ≡ outcome o → o ≡ accepted t → Cut t u
+unfolding tables
+cut-accepted t u o e f = rw (e ∙ ap outcome f) record {
+  number = refl;
+  switches = refl;
+  faults = refl;
+  kind = cut mostGates kindOf (t .gates);
+  left = cut mostGates leftOf (t .gates);
+  right = cut mostGates rightOf (t .gates);
+  rule = cut mostRules pointOf (t .rules) ∙ map-point (t .rules);
+  first = cut mostWishes (literalAt 0) (t .wishes);
+  second = cut mostWishes (literalAt 1) (t .wishes);
+  third = cut mostWishes (literalAt 2) (t .wishes);
+}
+
+module _ (t : Sheet) (v : Valid t) (u : Tables) (c : Cut t u) where
+  abbrev kinds : List ℕ
+  kinds = take (u .gates) (u .kind)
+
+  abbrev lefts : List ℕ
+  lefts = take (u .gates) (u .left)
+
+  abbrev rights : List ℕ
+  rights = take (u .gates) (u .right)
+
+  abbrev firsts : List ℕ
+  firsts = take (u .wishes) (u .first)
+
+  abbrev seconds : List ℕ
+  seconds = take (u .wishes) (u .second)
+
+  abbrev thirds : List ℕ
+  thirds = take (u .wishes) (u .third)
+
+  pub gates-are : gatesOf kinds lefts rights ≡ t .gates
+  gates-are = rw (c .kind, c .left, c .right) (gates-back (t .gates))
+
+  pub wishes-are : wishesOf firsts seconds thirds ≡ t .wishes
+  wishes-are = rw (c .first, c .second, c .third) (wishes-back (t .switches) (t .wishes) (v .wishes))
+
+  length-kinds : length kinds ≡ length (t .gates)
+  length-kinds = rw (c .kind) (length-map (t .gates) kindOf)
+
+  length-firsts : length firsts ≡ length (t .wishes)
+  length-firsts = rw (c .first) (length-map (t .wishes) (literalAt 0))
+
+  pub wish-columns : Columns mostWishes firsts seconds thirds
+  wish-columns = record {
+    few = omega (arith, length-firsts, v .few-wishes);
+    seconds = rw (c .second, c .first) (length-map (t .wishes) (literalAt 1) ∙ sym (length-map (t .wishes) (literalAt 0)));
+    thirds = rw (c .third, c .first) (length-map (t .wishes) (literalAt 2) ∙ sym (length-map (t .wishes) (literalAt 0)));
+  }
+
+  pub gates-fit : Gates (u .switches) (u .faults) kinds lefts rights
+  gates-fit = record {
+    switches = rw (c .switches) (v .switches);
+    faults = rw (c .faults) (v .faults);
+    columns = record {
+      few = omega (arith, length-kinds, v .few-gates);
+      seconds = rw (c .left, c .kind) (length-map (t .gates) leftOf ∙ sym (length-map (t .gates) kindOf));
+      thirds = rw (c .right, c .kind) (length-map (t .gates) rightOf ∙ sym (length-map (t .gates) kindOf));
+    };
+    ordered = rw (gates-are, c .switches, c .faults) (v .gates);
+  }
+
+  pub rules-fit : All (Among (u .switches + u .faults + length kinds)) (take (u .rules) (u .rule))
+  rules-fit = rw (c .rule, c .switches, c .faults, length-kinds) (v .rules)
+
+  pub wishes-fit : Clauses (u .switches) firsts seconds thirds
+  wishes-fit = record { switches = rw (c .switches) (v .switches); columns = wish-columns; wishes = rw (wishes-are, c .switches) (v .wishes) }
+
+  -- the sheet without its wishes
+  pub circuit-is : circuit (u .switches) (u .faults) kinds lefts rights (take (u .rules) (u .rule)) ≡ sheet (t .switches) (t .faults) (t .gates) (t .rules) []
+  circuit-is = rw (c .switches, c .faults, gates-are, c .rule)
+
+-- ---- each count is within its array, also after a refusal
+
+pub record Fronts (u : Tables) : Type 0 where
+  pub kind : u .gates ≤ length (u .kind)
+  pub left : u .gates ≤ length (u .left)
+  pub right : u .gates ≤ length (u .right)
+  pub rule : u .rules ≤ length (u .rule)
+  pub first : u .wishes ≤ length (u .first)
+  pub second : u .wishes ≤ length (u .second)
+  pub third : u .wishes ≤ length (u .third)
+
+within-padded : {A : Type 0} (n : ℕ) (f : A → ℕ) (l : List A) → length l ≤ length (padded n f l)
+unfolding padded
+within-padded n f l = omega (arith, length-append (map f l) (replicate (n - length l) 0), length-map l f)
+
+tables-fronts : (number place : ℕ) (t : Sheet) → Fronts (tables number place t)
+unfolding tables
+tables-fronts number place t = record {
+  kind = within-padded mostGates kindOf (t .gates);
+  left = within-padded mostGates leftOf (t .gates);
+  right = within-padded mostGates rightOf (t .gates);
+  rule = within-padded mostRules pointOf (t .rules);
+  first = within-padded mostWishes (literalAt 0) (t .wishes);
+  second = within-padded mostWishes (literalAt 1) (t .wishes);
+  third = within-padded mostWishes (literalAt 2) (t .wishes);
+}
+
+pub fronts : (u : Tables) (o : Read) → u ≡ outcome o → Fronts u
+fronts u o e = rw e (go o)
+  where
+    go : (o : Read) → Fronts (outcome o)
+    go (accepted t) = tables-fronts 0 0 t
+    go (refused n place) = tables-fronts n place (started 0 0)

@@ -1,0 +1,53 @@
+// What Answer and Short run return.
+use circuit::Plan;
+use search::best::Best;
+ghost use mathlib.Core.Path.{_≡_};
+ghost use Rattle.scope.specs.Jobs.{refusal};
+ghost use Rattle.planner.specs.Figures.{resultOf};
+ghost use Rattle.planner.specs.laws.Jobs.{bestFigures};
+
+// The number is 0 with a plan; otherwise it says why there is none, and the place where.
+pub struct Outcome {
+    pub number: u32,
+    pub place: usize,
+    pub plan: Plan,
+    pub cost: u32,
+    pub length: usize,
+}
+
+pub const NO_PLAN: u32 = 8;
+
+pub const NO_ROOM: u32 = 9;
+
+pub const HIGH_PLAN: u32 = 10;
+
+pub const HIGH_PATTERN: u32 = 11;
+
+// Fields not named are 0 on refusal.
+pub fn refused(number: u32, place: usize, length: usize) -> Outcome
+    ensures { λ r. ⌜ resultOf r ≡ refusal number place length ⌝ }
+{
+    Outcome {
+        number,
+        place,
+        plan: Plan(0),
+        cost: 0,
+        length,
+    }
+}
+
+// The best plan with its cost, or that there is no plan.
+pub fn best_outcome(best: Best, length: usize) -> Outcome
+    ensures { λ r. ⌜ resultOf r ≡ bestFigures best length ⌝ }
+{
+    match best {
+        Best::Nothing => refused(NO_PLAN, 0, length),
+        Best::At(plan, cost) => Outcome {
+            number: 0,
+            place: 0,
+            plan,
+            cost,
+            length,
+        },
+    }
+}
