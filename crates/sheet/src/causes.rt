@@ -59,12 +59,14 @@ fn row(number: u32, met: bool, later: u32) -> u32
     number
 }
 
+// Neither the first line nor the last.
 fn between(k: usize, last: bool) -> bool
     ensures { λ r. ⌜ r ≡ (not (eqb k 0) && not last) ⌝ }
 {
     both(k != 0, !last)
 }
 
+// The points that stand before line k: a gate may name no other.
 fn all_points(c: Counts) -> u32
     requires { ⌜ Few c ⌝ }
     ensures { λ r. ⌜ ((t : Sheet) → Counted t c → r ≡ points t) ⌝ }

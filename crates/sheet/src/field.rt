@@ -76,29 +76,27 @@ fn unless_last(st: Scan, left: usize) -> Scan
 fn after_spaces(b: u8, left: usize) -> Scan
     ensures { λ r. ⌜ r ≡ next Scan.Blank b left ⌝ }
 {
-    if b == SPACE {
-        return unless_last(Scan::Blank, left);
-    }
-    if b == MINUS {
-        return unless_last(Scan::Minus, left);
-    }
-    // a zero stands alone
-    if b == ZERO {
-        if left == 0 {
-            return Scan::Number(false, 0);
+    match b {
+        SPACE => unless_last(Scan::Blank, left),
+        MINUS => unless_last(Scan::Minus, left),
+        // a zero stands alone
+        ZERO => {
+            if left == 0 {
+                return Scan::Number(false, 0);
+            }
+            Scan::Bad
         }
-        return Scan::Bad;
+        _ => with_digit(false, 0, b),
     }
-    with_digit(false, 0, b)
 }
 
 fn after_minus(b: u8, left: usize) -> Scan
     ensures { λ r. ⌜ r ≡ next Scan.Minus b left ⌝ }
 {
-    if b == ZERO {
-        return Scan::Bad;
+    match b {
+        ZERO => Scan::Bad,
+        _ => with_digit(true, 0, b),
     }
-    with_digit(true, 0, b)
 }
 
 // One more byte, with `left` columns after it.

@@ -39,6 +39,7 @@ fn literal_code(x: Number) -> u32
     x.size * 2
 }
 
+// The tables with one more wish, of the first fields.
 fn with_literals(u: Tables, xs: [Number; MOST_FIELDS]) -> Tables
     requires { ⌜ (u .wishes < mostWishes) × (u .switches ≤ mostSwitches) × (literals (u .switches) (numbersFrom mostLiterals xs) ≡ true) ⌝ }
     ensures { λ r. ⌜ ((t : Sheet) → u ≡ filled t → r ≡ filled (addWish t (clause (numbersFrom mostLiterals xs)))) ⌝ }
@@ -111,6 +112,7 @@ fn read_form(s: &[u8], n: usize) -> Tables
     tables::refused(LENGTH, 0)
 }
 
+// What a sheet says, or the first cause to turn it down.
 pub fn read(s: &[u8]) -> Tables
     ensures { λ r. ⌜ r ≡ outcome (read fieldCount (now (s .entry))) ⌝ }
 {

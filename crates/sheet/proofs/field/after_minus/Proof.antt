@@ -4,16 +4,16 @@ use borrow.Author.Needs.{needs}
 use Rattle.sheet.proofs.field.after_minus.Statement.{statement}
 use Rattle.sheet.proofs.field.after_minus.Tie as tie
 
+with-digit-requires : tie.Need-with-digit-requires
+with-digit-requires c κs = search needs
+
 returns : tie.Need-returns
 unfolding next pick
 returns c = search tests
-
-with-digit-requires : tie.Need-with-digit-requires
-with-digit-requires c κs = search needs
 
 returns-2 : tie.Need-returns-2
 unfolding next pick
 returns-2 c = search tests
 
 pub after-minus-spec : {M : Type 1} → statement M
-after-minus-spec = tie.close (tie.spec returns with-digit-requires returns-2)
+after-minus-spec = tie.close (tie.spec with-digit-requires returns returns-2)
