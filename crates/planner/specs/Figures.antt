@@ -1,6 +1,7 @@
 -- The figures that the jobs return, as the scope names them. Assumes nothing.
 use Prim.Native.Nat.{ℕ}
-use Rattle.scope.specs.Jobs.{Result}
+use mathlib.Core.List.{List}
+use Rattle.scope.specs.Jobs.{Result, Answer, answered}
 use Rattle.scope.specs.Jobs as jobs
 use Rattle.planner.specs.declared.outcome.Outcome.{Outcome}
 use Rattle.planner.specs.declared.rating.Rating.{Rating}
@@ -10,3 +11,7 @@ resultOf r = record { number = r .number; place = r .place; plan = r .plan .0; c
 
 abbrev pub ratingOf : Rating → jobs.Rating
 ratingOf r = record { number = r .number; place = r .place; cost = r .cost; sound = r .sound; pattern = r .pattern .0; length = r .length }
+
+-- Answer's figures, and the lent list afterwards
+abbrev pub answerFrom : Outcome → List ℕ → Answer
+answerFrom r l = answered (resultOf r) l

@@ -53,7 +53,7 @@ fn rated(cost: u32, missed: Missed) -> Rating
     }
 }
 
-fn wide(n: u32) -> usize
+pub fn wide(n: u32) -> usize
     ensures { λ r. ⌜ r ≡ n ⌝ }
 {
     n as usize

@@ -6,7 +6,7 @@ use mathlib.Core.Option.{Option, none, some}
 use mathlib.Core.Path.{_≡_}
 use lib.ListN.{length, take}
 use Rattle.scope.specs.Sheet.{Clause, Sheet, All, Among}
-use Rattle.scope.specs.Meaning.{passes, switchOn, broken}
+use Rattle.scope.specs.Meaning.{passes, switchOn, distinct, broken}
 use Rattle.scope.specs.Rule.{Task, Verdict, noRoom, verdictOf, run, rule}
 use Rattle.scope.specs.Jobs.{over}
 use Rattle.circuit.specs.Lent.{Gates, Clauses, circuit, wishesOf}
@@ -18,9 +18,13 @@ use Rattle.search.specs.declared.run.Run.{Run}
 abbrev pub table : Sheet → List Clause → Task
 table t ws = record { passes = passes t; cost = λ p. broken (switchOn t p) ws; plans = 2 ^ t .switches; patterns = 2 ^ t .faults }
 
--- That of lent columns; the wishes are the sheet's, repeats left out.
+-- That of lent columns.
 abbrev pub tableOf : (a f : ℕ) (kind left right rules first second third : List ℕ) → Task
 tableOf a f kind left right rules first second third = table (circuit a f kind left right rules) (wishesOf first second third)
+
+-- The same for a sheet's own wishes: a plan costs what it breaks of them, repeats left out.
+abbrev pub sheetTable : (a f : ℕ) (kind left right rules first second third : List ℕ) → Task
+sheetTable a f kind left right rules first second third = table (circuit a f kind left right rules) (distinct [] (wishesOf first second third))
 
 -- columns that a sheet may have
 pub record Lent (a f : ℕ) (kind left right rules first second third : List ℕ) : Type 0 where

@@ -71,8 +71,8 @@ pub struct Run {
     pub length: usize,
 }
 
-// The full run: the list goes into `list`, and words after it keep their content.
-pub fn full_run(
+// Rounds until the run ends: the list goes into `list`, and words after it keep their content.
+pub fn run_rounds(
     kind: &[u8],
     left: &[u32],
     right: &[u32],

@@ -8,21 +8,22 @@ use mathlib.Core.Logic.{_≢_}
 use mathlib.Core.Option.{Option, none, some}
 use mathlib.Core.Path.{_≡_, refl, sym, ap, ap₂, subst, _∙_}
 use lib.Dec.{ltb}
-use lib.ListN.{length, getD, take, drop}
-use lib.Seq.{drop-cons}
+use lib.ListN.{length, getD, take, drop, drop-of-length-le}
+use lib.Seq.{drop-cons, length-take-le}
 use borrow.Author.Tests.{lt-ltb, le-ltb}
 use Rattle.scope.specs.Sheet.{Clause, Sheet, sheet, fieldCount, All, Among, Valid}
 use Rattle.scope.specs.Reading.{Read, accepted, refused, read}
 use Rattle.scope.specs.Meaning.{plans, patterns, distinct, broken, switchOn, passes, truth, cost}
 use Rattle.scope.specs.Rule.{Task, Verdict, noRoom, verdictOf, Run, run, rule, missed, short, best}
-use Rattle.scope.specs.Jobs.{task, Result, refusal, found, result, over, answerOf, answer, firstHigh, shortBelow, shortOf, shortRun, rated, unrated, rating}
+use Rattle.scope.specs.Jobs.{task, Result, refusal, found, result, over, answered, answerOf, answer, firstHigh, shortBelow, shortOf, shortRun, rated, unrated, rating}
 use Rattle.scope.specs.Jobs as jobs
 use Rattle.scope.specs.laws.Inverse.{read-iff}
 use Rattle.circuit.specs.Lent.{Gates, Clauses, circuit, wishesOf, wishSheet}
 use Rattle.circuit.specs.laws.Sheets.{cost-of, missed-of}
 use Rattle.search.specs.declared.best.Best.{Best}
 use Rattle.search.specs.declared.best.Best.the-variants.{Nothing, At}
-use Rattle.search.specs.Table.{table, bestOf, Priced}
+use Rattle.search.specs.declared.run.Run as made
+use Rattle.search.specs.Table.{table, Lent, bestOf, Priced, verdictFrom, Ran}
 use Rattle.sheet.specs.declared.tables.Tables.{Tables}
 use Rattle.sheet.specs.Tables.{outcome}
 use Rattle.sheet.specs.laws.Outcomes.{accepted-of, refused-of}
@@ -78,6 +79,9 @@ module _ (s : List ℕ) (u : Tables) (h : Sheeted s u) (g n w : ℕ) (gates : g 
 
   pub wishes-ok : Clauses (u .switches) firsts seconds thirds
   wishes-ok = rw wishes (wishes-fit (h .sheet) (h .valid) u (h .cut))
+
+  pub lent-ok : Lent (u .switches) (u .faults) kinds lefts rights points firsts seconds thirds
+  lent-ok = record { gates = gates-ok .0; points = gates-ok .1; wishes = wishes-ok }
 
   pub wishes-of : wishesOf firsts seconds thirds ≡ h .sheet .wishes
   wishes-of = rw wishes (wishes-are (h .sheet) (h .valid) u (h .cut))
@@ -149,3 +153,41 @@ high-next bound i l k h g =
 
 pub high-here : (bound i : ℕ) (l : List ℕ) (k : ℕ) → k < length l → bound ≤ getD l k 0 → firstHigh bound (i + k) (drop k l) ≡ some (i + k)
 high-here bound i l k h g = rw (drop-cons l k 0 h, le-ltb (getD l k 0) bound g)
+
+pub high-start : (bound : ℕ) (l : List ℕ) → firstHigh bound (1 + 0) (drop 0 l) ≡ firstHigh bound 1 l
+high-start bound l = refl
+
+pub high-end : (bound i : ℕ) (l : List ℕ) (k : ℕ) → length l ≤ k → firstHigh bound (i + k) (drop k l) ≡ none
+high-end bound i l k h = rw (drop-of-length-le l h)
+
+-- a position from 1, or 0
+unfoldable pub highOf : ℕ → Option ℕ
+highOf zero = none
+highOf (suc i) = some (suc i)
+
+pub high-none : highOf 0 ≡ none
+unfolding highOf
+high-none = refl
+
+pub high-some : (i : ℕ) → i ≢ 0 → highOf i ≡ some i
+unfolding highOf
+high-some zero h = absurd (h refl)
+high-some (suc i) h = refl
+
+-- ---- Answer
+
+abbrev pub runFigures : made.Run → Result
+runFigures r = cond (r .full) (refusal 9 0 (r .length)) (bestFigures (r .best) (r .length))
+
+run-figures : (t : Sheet) (r : made.Run) → Priced (task t) (r .best) → runFigures r ≡ result t (verdictFrom r) (r .length)
+run-figures t r h = go (r .full)
+  where
+    go : (b : Bool) → cond b (refusal 9 0 (r .length)) (bestFigures (r .best) (r .length)) ≡ result t (cond b noRoom (verdictOf (bestOf (r .best)))) (r .length)
+    go true = refl
+    go false = best-figures t (r .best) (r .length) h
+
+pub answer-run : (s lent after : List ℕ) (t : Sheet) (r : made.Run) → read fieldCount s ≡ accepted t → length after ≡ length lent → Ran (task t) lent r after → answered (runFigures r) after ≡ answer s lent
+unfolding answer
+answer-run s lent after t r e n h =
+    let k : length (take (r .length) after) ≡ r .length = length-take-le (r .length) after (omega (arith, h .fits)) in
+    rw (e, h .ruled, k) (ap₂ answered (run-figures t r (h .priced)) (rw k at (h .list)))

@@ -6,10 +6,10 @@ use lib.Seq.{length-take-le}
 use borrow.Author.Needs.{needs}
 use Rattle.search.specs.Table.{tableOf}
 use Rattle.search.specs.laws.Steps.{Stepped, Kept, kept-none, kept-more, Onward, on-start, on-more, on-done, on-full}
-use Rattle.search.proofs.run.full_run.Statement.{statement}
-use Rattle.search.proofs.run.full_run.Tie as tie
-use Rattle.search.proofs.run.full_run.Reads as reads
-use Rattle.search.proofs.run.full_run.Lts as lts
+use Rattle.search.proofs.run.run_rounds.Statement.{statement}
+use Rattle.search.proofs.run.run_rounds.Tie as tie
+use Rattle.search.proofs.run.run_rounds.Reads as reads
+use Rattle.search.proofs.run.run_rounds.Lts as lts
 use Rattle.search.proofs.run.round.Reads as round-reads
 
 abbrev Inv-loop : tie.InvT-loop
@@ -84,8 +84,8 @@ loop-again c =
       on-more t (a .list .now) (s .list) (s .n) (s .inv .0) (s .inv .1) _ (subst (Stepped t (take (s .n) (s .list))) e (c .before .before .before .before .round .ensures)) h,
     )
 
-pub full-run-spec : {M : Type 1} → statement M
-full-run-spec =
+pub run-rounds-spec : {M : Type 1} → statement M
+run-rounds-spec =
     tie.close
     (tie.spec
     Inv-loop

@@ -1,0 +1,23 @@
+use mathlib.Core.Path.{refl, sym, _∙_}
+use borrow.Author.Needs.{needs}
+use Rattle.planner.proofs.answer.run_outcome.Statement.{statement}
+use Rattle.planner.proofs.answer.run_outcome.Tie as tie
+use Rattle.planner.proofs.answer.run_outcome.Reads as reads
+use Rattle.planner.proofs.answer.run_outcome.Lts as lts
+use Rattle.planner.proofs.outcome.best_outcome.Reads as best-outcome-reads
+use Rattle.planner.proofs.outcome.refused.Reads as refused-reads
+
+refused-requires : tie.Need-refused-requires
+refused-requires c κs = search needs
+
+returns : tie.Need-returns
+returns c = c .refused .ensures ∙ sym (rw (c .before .if1 .taken))
+
+best-outcome-requires : tie.Need-best-outcome-requires
+best-outcome-requires c κs = search needs
+
+returns-2 : tie.Need-returns-2
+returns-2 c = c .best-outcome .ensures ∙ sym (rw (c .before .if1 .left))
+
+pub run-outcome-spec : {M : Type 1} → statement M
+run-outcome-spec = tie.close (tie.spec refused-requires returns best-outcome-requires returns-2)

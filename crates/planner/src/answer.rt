@@ -1,0 +1,109 @@
+// Answer and Short run.
+use crate::outcome::HIGH_PATTERN;
+use crate::outcome::NO_ROOM;
+use crate::outcome::Outcome;
+use crate::outcome::best_outcome;
+use crate::outcome::refused;
+use crate::rating::wide;
+use search::run::Run;
+ghost use mathlib.Core.Path.{_≡_};
+ghost use Rattle.scope.specs.Jobs.{firstHigh};
+ghost use Rattle.scope.specs.Jobs as jobs;
+ghost use Rattle.planner.specs.Figures.{resultOf, answerFrom};
+ghost use Rattle.planner.specs.laws.Jobs.{highOf, runFigures};
+
+// The figures of a full run.
+fn run_outcome(run: Run) -> Outcome
+    ensures { λ r. ⌜ resultOf r ≡ runFigures run ⌝ }
+{
+    let full = run.full;
+    if full {
+        return refused(NO_ROOM, 0, run.length);
+    }
+    let best = run.best;
+    best_outcome(best, run.length)
+}
+
+// Answer, the full run: the list goes into `list`, and words after it keep their content.
+pub fn answer(s: &[u8], list: &mut [u32]) -> Outcome
+    ensures { λ r. ⌜ answerFrom r (now (list .exit)) ≡ jobs.answer (now (s .entry)) (now (list .entry)) ⌝ }
+{
+    let t = sheet::read(s);
+    if t.number != 0 {
+        return refused(t.number, t.place, 0);
+    }
+    let kind = t.kind;
+    let left = t.left;
+    let right = t.right;
+    let rule = t.rule;
+    let first = t.first;
+    let second = t.second;
+    let third = t.third;
+    let g = wide(t.gates);
+    let n = wide(t.rules);
+    let w = wide(t.wishes);
+    let run = search::sheets::full_run(
+        &kind[..g],
+        &left[..g],
+        &right[..g],
+        &rule[..n],
+        &first[..w],
+        &second[..w],
+        &third[..w],
+        t.switches,
+        t.faults,
+        list,
+    );
+    run_outcome(run)
+}
+
+// The position, from 1, of the first word that is not below the bound; 0 if all are.
+fn first_high(list: &[u32], bound: u32) -> usize
+    ensures { λ r. ⌜ highOf r ≡ firstHigh bound 1 (now (list .entry)) ⌝ }
+{
+    let mut i = 0;
+    while i < list.len() {
+        if bound <= list[i] {
+            return i + 1;
+        }
+        i += 1;
+    }
+    0
+}
+
+// Short run: the best plan that passes the given patterns.
+pub fn short_run(s: &[u8], patterns: &[u32]) -> Outcome
+    ensures { λ r. ⌜ resultOf r ≡ jobs.shortRun (now (s .entry)) (now (patterns .entry)) ⌝ }
+{
+    let t = sheet::read(s);
+    if t.number != 0 {
+        return refused(t.number, t.place, 0);
+    }
+    let high = first_high(patterns, circuit::rule::power(t.faults));
+    if high != 0 {
+        return refused(HIGH_PATTERN, high, 0);
+    }
+    let kind = t.kind;
+    let left = t.left;
+    let right = t.right;
+    let rule = t.rule;
+    let first = t.first;
+    let second = t.second;
+    let third = t.third;
+    let g = wide(t.gates);
+    let n = wide(t.rules);
+    let w = wide(t.wishes);
+    let best = search::sheets::short_run(
+        &kind[..g],
+        &left[..g],
+        &right[..g],
+        &rule[..n],
+        &first[..w],
+        &second[..w],
+        &third[..w],
+        t.switches,
+        t.faults,
+        patterns,
+    );
+    best_outcome(best, 0)
+}
