@@ -1,8 +1,9 @@
 -- The figures that the jobs return, as the scope names them. Assumes nothing.
 use Prim.Native.Nat.{ℕ}
-use mathlib.Core.List.{List}
+use mathlib.Core.List.{List, [], _∷_}
 use Rattle.scope.specs.Jobs.{Result, Answer, answered}
 use Rattle.scope.specs.Jobs as jobs
+use Rattle.scope.specs.Program.{one}
 use Rattle.planner.specs.declared.outcome.Outcome.{Outcome}
 use Rattle.planner.specs.declared.rating.Rating.{Rating}
 
@@ -15,3 +16,12 @@ ratingOf r = record { number = r .number; place = r .place; cost = r .cost; soun
 -- Answer's figures, and the lent list afterwards
 abbrev pub answerFrom : Outcome → List ℕ → Answer
 answerFrom r l = answered (resultOf r) l
+
+-- ---- the figures one by one, as the calls for C hand them out
+
+abbrev pub figures : (number place plan cost length : ℕ) → Result
+figures n k p c l = record { number = n; place = k; plan = p; cost = c; length = l }
+
+-- sound is 1 or 0
+abbrev pub ratingFigures : jobs.Rating → List ℕ
+ratingFigures r = r .number ∷ r .place ∷ r .cost ∷ one (r .sound) ∷ r .pattern ∷ r .length ∷ []

@@ -1,0 +1,24 @@
+use mathlib.Core.List.{[], _∷_}
+use mathlib.Core.Path.{sym, ap, _∙_}
+use Rattle.planner.specs.Figures.{ratingFigures}
+use borrow.Author.Needs.{needs}
+use Rattle.planner.proofs.calls.comzsered_rating.Statement.{statement}
+use Rattle.planner.proofs.calls.comzsered_rating.Tie as tie
+use Rattle.planner.proofs.calls.comzsered_rating.Reads as reads
+use Rattle.planner.proofs.calls.comzsered_rating.Lts as lts
+use Rattle.planner.proofs.calls.flag.Reads as flag-reads
+use Rattle.planner.proofs.rating.rate.Reads as rate-reads
+
+rate-requires : tie.Need-rate-requires
+rate-requires c κs = search needs
+
+flag-requires : tie.Need-flag-requires
+flag-requires c κs = search needs
+
+returns : tie.Need-returns
+returns c =
+    let r = c .before .rate .result in
+    ap ratingFigures (sym (c .before .rate .ensures)) ∙ ap (λ m. r .number ∷ r .place ∷ r .cost ∷ m ∷ r .pattern .0 ∷ r .length ∷ []) (sym (c .flag .ensures))
+
+pub comzsered-rating-spec : {M : Type 1} → statement M
+comzsered-rating-spec = tie.close (tie.spec rate-requires flag-requires returns)
