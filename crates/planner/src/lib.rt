@@ -3,4 +3,5 @@
 pub mod answer;
 pub mod calls;
 pub mod outcome;
+pub mod print;
 pub mod rating;

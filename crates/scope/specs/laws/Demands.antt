@@ -167,6 +167,16 @@ module _ (t : Sheet) where
             subst (Same (full .result)) (sym s) (rw e (same-result t (whole (task t) .verdict) (length (list t)) 0))
         go (no m) = absurd (n (ap (λ r. result t (r .verdict) (length (r .words)) .number) (no-room (task t) (length lent) (omega arith))))
 
+-- ---- the length returned and the words listed
+
+module _ (lent : List ℕ) where
+  pub listed-of : (o : Read) → ((t : Sheet) → o ≡ accepted t → patterns t ≤ 65536) → (answerOf o lent .result .length ≤ length lent) × ((i : ℕ) → i < length (listed (answerOf o lent)) → getD (listed (answerOf o lent)) i 0 < 65536)
+  listed-of (accepted t) most = (
+    rw (result-length t (rule (task t) (length lent) [] .verdict) (length (rule (task t) (length lent) [] .words)), ← listed-words t lent) (listed-most t lent),
+    λ i h. omega (arith, words-below (task t) (listed (answerOf (accepted t) lent)) (listed-ruled t lent) i h, most t refl),
+  )
+  listed-of (refused c place) most = (omega arith, λ i h. absurd (omega arith))
+
 -- ---- demand 3, over every sheet and every lent list
 
 agrees-of : (r : Read) (lent : List ℕ) → answerOf r lent .result .number ≢ 9 → Same (answerOf r lent .result) (shortOf r (listed (answerOf r lent)))

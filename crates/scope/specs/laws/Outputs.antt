@@ -24,7 +24,7 @@ use Rattle.scope.specs.laws.Inverse.{read-iff, plus-fits, all-append}
 use Rattle.scope.specs.laws.Points.{length-bits}
 use Rattle.scope.specs.laws.Wishes.{cost-small}
 use Rattle.scope.specs.laws.Rules.{words-below, length-patterns}
-use Rattle.scope.specs.laws.Demands.{listed-ruled}
+use Rattle.scope.specs.laws.Demands.{listed-ruled, listed-of}
 
 -- the largest number of five columns
 abbrev top : ℕ
@@ -147,3 +147,9 @@ output-fits s = go (read fieldCount s) refl
     go (refused c place) e =
         let h : Cause fieldCount s c place = refused-iff fieldCount s c place .0 e in
         (row-fits "A" c place 0 (omega (arith, number-small (cause-number fieldCount s h))) (omega (arith, cause-small s h)) (omega arith), (row-fits "Z" 1 0 0 (omega arith) (omega arith) (omega arith), tt))
+
+-- ---- what Answer lists, whatever it is lent: no more than that, and patterns that fit a field
+
+pub listed-small : (s lent : List ℕ) → (answer s lent .result .length ≤ length lent) × ((i : ℕ) → i < length (listed (answer s lent)) → getD (listed (answer s lent)) i 0 < 65536)
+unfolding answer
+listed-small s lent = listed-of lent (read fieldCount s) (λ t e. most-patterns t (read-iff fieldCount (omega arith) s t .0 e .1))

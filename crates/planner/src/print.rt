@@ -1,0 +1,50 @@
+// The program's listing.
+use crate::answer::answer;
+use crate::rating::wide;
+use listing::whole::MOST_BYTES;
+use listing::whole::put_listing;
+ghost use mathlib.Core.Path.{_≡_};
+ghost use Prim.Native.Nat.{_<_};
+ghost use Rattle.planner.specs.laws.Listing.{listingInto, listingLength};
+
+// The list that the program lends.
+const ROOM: usize = 4096;
+
+fn narrow(n: usize) -> u32
+    requires { ⌜ n < 100000 ⌝ }
+    ensures { λ r. ⌜ r ≡ n ⌝ }
+{
+    n as u32
+}
+
+// Puts what the program prints for a sheet at the beginning of `out`, and returns its length. A buffer
+// that is shorter than the longest listing is left as it was, and the length is 0.
+pub fn print_listing(s: &[u8], out: &mut [u8]) -> usize
+    ensures { λ r. ⌜ (now (out .exit) ≡ listingInto (now (s .entry)) (now (out .entry))) × (r ≡ listingLength (now (s .entry)) (now (out .entry))) ⌝ }
+{
+    if out.len() < MOST_BYTES {
+        return 0;
+    }
+    let mut list = [0u32; ROOM];
+    let r = answer(s, &mut list);
+    let t = sheet::read(s);
+    let first = t.first;
+    let second = t.second;
+    let third = t.third;
+    let w = wide(t.wishes);
+    let n = r.length;
+    let place = narrow(r.place);
+    put_listing(
+        out,
+        r.number,
+        place,
+        r.cost,
+        r.number == 0,
+        t.switches,
+        r.plan,
+        &first[..w],
+        &second[..w],
+        &third[..w],
+        &list[..n],
+    )
+}
