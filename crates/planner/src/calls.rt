@@ -1,6 +1,7 @@
 // The calls for C and Rust. Each returns the number, and writes every other figure through a pointer.
 use crate::answer::answer;
 use crate::answer::short_run;
+use crate::print::print_listing;
 use crate::rating::rate;
 use circuit::Plan;
 ghost use mathlib.Core.List.{[], _∷_};
@@ -9,6 +10,7 @@ ghost use Rattle.scope.specs.Program.{one};
 ghost use Rattle.scope.specs.Jobs as jobs;
 ghost use Rattle.scope.specs.Jobs.{answered};
 ghost use Rattle.planner.specs.Figures.{figures, ratingFigures};
+ghost use Rattle.planner.specs.laws.Listing.{listingInto, listingLength};
 
 #[no_mangle]
 pub extern "C" fn comzsered_answer(
@@ -73,4 +75,11 @@ pub extern "C" fn comzsered_rating(
     *pattern = r.pattern.0;
     *length = r.length;
     r.number
+}
+
+#[no_mangle]
+pub extern "C" fn comzsered_listing(sheet: &[u8], out: &mut [u8]) -> usize
+    ensures { λ r. ⌜ (now (out .exit) ≡ listingInto (now (sheet .entry)) (now (out .entry))) × (r ≡ listingLength (now (sheet .entry)) (now (out .entry))) ⌝ }
+{
+    print_listing(sheet, out)
 }

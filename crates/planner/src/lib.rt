@@ -3,5 +3,6 @@
 pub mod answer;
 pub mod calls;
 pub mod outcome;
+pub mod pair;
 pub mod print;
 pub mod rating;

@@ -6,7 +6,7 @@ use mathlib.Core.List.{List, [], _∷_, _++_}
 use mathlib.Core.Logic.{_≢_}
 use mathlib.Core.Path.{_≡_, refl, sym, ap, ap₂, subst, _∙_}
 use lib.Dec.{eqb, ltb}
-use lib.ListN.{length, getD, take, drop, replicate, length-replicate}
+use lib.ListN.{length, getD, take, drop, replicate, length-append, length-drop, length-replicate}
 use borrow.Author.Tests.{leb-true, lt-ltb, le-ltb, ne-eqb}
 use Rattle.scope.specs.Sheet.{Clause, Sheet, fieldCount, plus, fits, All, Valid}
 use Rattle.scope.specs.Reading.{Read, accepted, refused, started, read}
@@ -114,3 +114,12 @@ module _ (s : List ℕ) (r : Outcome) (l : List ℕ) (g : answerFrom r l ≡ ans
   words-small i h =
       let m : (i : ℕ) → i < length (listed (answerFrom r l)) → getD (listed (answerFrom r l)) i 0 < 65536 = subst (λ a. (i : ℕ) → i < length (listed a) → getD (listed a) i 0 < 65536) (sym g) (listed-small s (replicate room 0) .1) in
       omega (arith, m i h)
+
+-- what is put into a buffer of the same length is no longer than it
+pub listing-within : (s out after : List ℕ) → after ≡ listingInto s out → length after ≡ length out → listingLength s out ≤ length out
+unfolding listingInto listingLength
+listing-within s out after e n = go (ltb (length out) 71094) (ap length (sym e) ∙ n)
+  where
+    go : (b : Bool) → length (cond b out (over (rowsBytes (outputRows s)) out)) ≡ length out → cond b 0 (length (rowsBytes (outputRows s))) ≤ length out
+    go true h = omega arith
+    go false h = omega (arith, length-append (rowsBytes (outputRows s)) (drop (length (rowsBytes (outputRows s))) out), length-drop (length (rowsBytes (outputRows s))) out)

@@ -35,7 +35,7 @@ wide-requires : tie.Need-wide-requires
 wide-requires c κs = search needs
 
 narrow-requires : tie.Need-narrow-requires
-narrow-requires c κs = 
+narrow-requires c κs =
     let a = c .before .before .before .before .before .before .before .before .before .before .before .args in
     let s = now (a .s) in
     let r = c .before .before .before .before .before .before .answer .result in
@@ -62,7 +62,7 @@ slice-aggregate-put-listing-3 : tie.Need-slice-aggregate-put-listing-3
 slice-aggregate-put-listing-3 c = sym (length-take-le _ _ (rw (c .before .before .before .before .before .before .wide .ensures) (fronts (c .before .before .before .before .before .before .before .before .before .before .read .result) (read fieldCount (now (c .before .before .before .before .before .before .before .before .before .before .before .before .before .before .before .before .before .args .s))) (c .before .before .before .before .before .before .before .before .before .before .read .ensures) .third)))
 
 array-share-prefix-list : tie.Need-array-share-prefix-list
-array-share-prefix-list c = 
+array-share-prefix-list c =
     let a = c .before .before .before .before .before .before .before .before .before .before .before .before .before .before .before .before .before .args in
     let s = now (a .s) in
     let r = c .before .before .before .before .before .before .before .before .before .before .before .before .answer .result in
@@ -72,7 +72,7 @@ array-share-prefix-list c =
     omega (arith, length-small s r l g)
 
 slice-aggregate-put-listing-4 : tie.Need-slice-aggregate-put-listing-4
-slice-aggregate-put-listing-4 c = 
+slice-aggregate-put-listing-4 c =
     let a = c .before .before .before .before .before .before .before .before .before .before .before .before .before .before .before .before .before .before .args in
     let s = now (a .s) in
     let r = c .before .before .before .before .before .before .before .before .before .before .before .before .before .answer .result in
@@ -82,7 +82,7 @@ slice-aggregate-put-listing-4 c =
     sym (length-take-le (r .length) l (omega (arith, length-small s r l g)))
 
 put-listing-requires : tie.Need-put-listing-requires
-put-listing-requires c κs = 
+put-listing-requires c κs =
     let a = c .before .before .before .before .before .before .before .before .before .before .before .before .before .before .before .before .before .before .args in
     let s = now (a .s) in
     let r = c .before .before .before .before .before .before .before .before .before .before .before .before .before .answer .result in
@@ -97,7 +97,7 @@ same-length : tie.Need-same-length
 same-length c = search needs
 
 returns-2 : tie.Need-returns-2
-returns-2 c = 
+returns-2 c =
     let a = c .before .before .before .before .before .before .before .before .before .before .before .before .before .before .before .before .before .before .before .before .before .args in
     let s = now (a .s) in
     let r = c .before .before .before .before .before .before .before .before .before .before .before .before .before .before .before .before .answer .result in

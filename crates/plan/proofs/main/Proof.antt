@@ -1,0 +1,62 @@
+use Prim.Native.Nat.{ℕ}
+use mathlib.Core.Path.{_≡_, sym, _∙_}
+use lib.ListN.{length, replicate, length-replicate}
+use lib.Seq.{length-take-le}
+use Rattle.planner.specs.laws.Listing.{listing-within}
+use borrow.Author.Needs.{needs}
+use Rattle.plan.proofs.main.Statement.{statement}
+use Rattle.plan.proofs.main.Tie as tie
+use Rattle.plan.proofs.main.Reads as reads
+use Rattle.plan.proofs.main.Lts as lts
+use Rattle.io.proofs.read_full.Reads as read-full-reads
+use Rattle.io.proofs.write_all.Reads as write-all-reads
+use Rattle.planner.proofs.print.print_listing.Reads as print-listing-reads
+
+slice-aggregate-read-full : tie.Need-slice-aggregate-read-full
+slice-aggregate-read-full c = search needs
+
+read-full-requires : tie.Need-read-full-requires
+read-full-requires c κs = search needs
+
+array-share-prefix-input : tie.Need-array-share-prefix-input
+array-share-prefix-input c = search needs
+
+slice-aggregate-print-listing : tie.Need-slice-aggregate-print-listing
+slice-aggregate-print-listing c = search needs
+
+slice-aggregate-print-listing-2 : tie.Need-slice-aggregate-print-listing-2
+slice-aggregate-print-listing-2 c = search needs
+
+print-listing-requires : tie.Need-print-listing-requires
+print-listing-requires c κs = search needs
+
+array-share-prefix-out : tie.Need-array-share-prefix-out
+array-share-prefix-out c =
+    let p = c .before .print-listing in
+    let n : length (p .last .1 .0) ≡ 71094 = search needs in
+    let w = listing-within _ (replicate 71094 0) (p .last .1 .0) (p .ensures .0) (n ∙ sym (length-replicate {A = ℕ} 71094 0)) in
+    rw (p .ensures .1, n) (rw length-replicate at w)
+
+slice-aggregate-write-all : tie.Need-slice-aggregate-write-all
+slice-aggregate-write-all c = sym (length-take-le _ _ (array-share-prefix-out (c .before)))
+
+write-all-requires : tie.Need-write-all-requires
+write-all-requires c κs = search needs
+
+returns : tie.Need-returns
+returns c = search needs
+
+pub main-spec : {M : Type 1} → statement M
+main-spec =
+    tie.close
+    (tie.spec
+    slice-aggregate-read-full
+    read-full-requires
+    array-share-prefix-input
+    slice-aggregate-print-listing
+    slice-aggregate-print-listing-2
+    print-listing-requires
+    array-share-prefix-out
+    slice-aggregate-write-all
+    write-all-requires
+    returns)
