@@ -1,0 +1,490 @@
+//! Safe calls into the proved planner.
+//!
+//! A planning sheet tells of switches that are set once, faults that may then occur in any
+//! combination, rules that must hold whatever the faults are, and wishes about the switches. The
+//! planner finds the plan, a setting of all switches, that keeps every rule under every pattern of
+//! faults and breaks as few wishes as possible. The repository's `docs/FORMAT.md` describes sheets
+//! and every rule in full.
+//!
+//! | Job | Function | Gives |
+//! |---|---|---|
+//! | Answer | [`answer`] | the best plan that passes every pattern, and the patterns that the search needed |
+//! | Short run | [`short_run`] | the best plan that passes some given patterns |
+//! | Rating | [`rating`] | the cost of a plan, and whether it passes every pattern |
+//! | Listing | [`listing`] | the answer in lines of text, as the program `plan` prints it |
+//!
+//! In this sheet one of two switches or two faults must be true, and both switches are wished to be
+//! off:
+//!
+//! ```
+//! use comzsered::{answer, Answer, Plan};
+//!
+//! let sheet = b"\
+//! H    2    2    0\n\
+//! O    1    2    0\n\
+//! O    3    4    0\n\
+//! O    5    6    0\n\
+//! R    7    0    0\n\
+//! W   -1    0    0\n\
+//! W   -2    0    0\n\
+//! Z    7    0    0\n";
+//!
+//! let mut list = [0; 16];
+//! match answer(sheet, &mut list) {
+//!     Answer::Plan { plan, cost, patterns } => {
+//!         // Switch 1 is off and switch 2 is on, which breaks one wish.
+//!         assert_eq!(plan, Plan(1));
+//!         assert!(!plan.is_on(1, 2) && plan.is_on(2, 2));
+//!         assert_eq!(cost, 1);
+//!         // Plan 0 would break none, and fails under pattern 0: no fault at all.
+//!         assert_eq!(list[..patterns], [0]);
+//!     }
+//!     other => panic!("{other:?}"),
+//! }
+//! ```
+//!
+//! The time that the jobs take grows with the number of plans and patterns, so a sheet with many
+//! switches and faults may take very long. Any bytes may be passed as a sheet: wrong ones are
+//! refused.
+
+use std::fmt;
+
+pub mod figures;
+
+use figures::{Found, Rated};
+
+/// The bytes of the longest sheet.
+pub const SHEET_MAX: usize = 9_010;
+/// The words of the longest list: with so many, an answer never ends in [`Answer::NoRoom`].
+pub const LIST_MAX: usize = 65_536;
+/// The bytes of the longest listing.
+pub const LISTING_MAX: usize = 71_094;
+
+/// A setting of all switches. The binary digits of its number are the switches, switch 1 being the
+/// highest and 1 meaning on.
+#[derive(Clone, Copy, Debug, PartialEq, Eq, PartialOrd, Ord, Hash)]
+pub struct Plan(pub u32);
+
+impl Plan {
+    /// Whether the plan turns this switch on; the sheet has so many switches.
+    ///
+    /// # Panics
+    ///
+    /// If there is no such switch, or there are more than 32.
+    pub fn is_on(self, switch: u32, switches: u32) -> bool {
+        digit(self.0, switch, switches)
+    }
+}
+
+/// A combination of faults. The binary digits of its number are the faults, fault 1 being the
+/// highest and 1 meaning that it occurs.
+#[derive(Clone, Copy, Debug, PartialEq, Eq, PartialOrd, Ord, Hash)]
+pub struct Pattern(pub u32);
+
+impl Pattern {
+    /// Whether this fault occurs; the sheet has so many faults.
+    ///
+    /// # Panics
+    ///
+    /// If there is no such fault, or there are more than 32.
+    pub fn has(self, fault: u32, faults: u32) -> bool {
+        digit(self.0, fault, faults)
+    }
+}
+
+fn digit(number: u32, k: u32, digits: u32) -> bool {
+    assert!(1 <= k && k <= digits && digits <= 32);
+    number >> (digits - k) & 1 == 1
+}
+
+/// Why a sheet or a call is turned down: the number of the refusal, and where its cause is.
+///
+/// ```
+/// use comzsered::{answer, Answer};
+///
+/// let Answer::Refused(refusal) = answer(b"H    1    0    0\nO    1    2    0\nZ    2    0    0\n", &mut [])
+/// else { panic!() };
+/// assert_eq!((refusal.number, refusal.place), (6, 2));
+/// assert_eq!(
+///     refusal.to_string(),
+///     "line 2: a point or literal is not allowed here, an unused field is not 0, \
+///      or a literal follows a 0"
+/// );
+/// ```
+#[derive(Clone, Copy, Debug, PartialEq, Eq, Hash)]
+pub struct Refusal {
+    pub number: u32,
+    /// A line or a position, counted from 1; 0 where there is none.
+    pub place: usize,
+}
+
+impl fmt::Display for Refusal {
+    fn fmt(&self, f: &mut fmt::Formatter) -> fmt::Result {
+        let Refusal { number, place } = *self;
+        let cause = match number {
+            1 => "the sheet's length is 0, above 9,010 or no multiple of 17",
+            2 => "the line is malformed or its letter is unknown",
+            3 => "this letter is not allowed at this line",
+            4 => "the number of switches is not 0 to 20 or that of faults is not 0 to 16",
+            5 => "there are more than 400 gates, 64 rules or 64 wishes",
+            6 => {
+                "a point or literal is not allowed here, an unused field is not 0, \
+                 or a literal follows a 0"
+            }
+            7 => "the count of the lines before this one is wrong",
+            8 => "no plan passes the patterns",
+            9 => "the list is longer than the room lent for it",
+            10 => "the plan has more binary digits than there are switches",
+            11 => "the pattern has more binary digits than there are faults",
+            _ => return write!(f, "refused with number {number}, place {place}"),
+        };
+        match number {
+            2..=7 => write!(f, "line {place}: {cause}"),
+            11 => write!(f, "pattern {place} of the given ones: {cause}"),
+            _ => write!(f, "{cause}"),
+        }
+    }
+}
+
+impl std::error::Error for Refusal {}
+
+/// What [`answer`] gives. `patterns` is the number of words at the list's beginning that hold the
+/// patterns listed; the other words are as they were.
+#[derive(Clone, Copy, Debug, PartialEq, Eq)]
+pub enum Answer {
+    /// The best sound plan and its cost. The list is whole.
+    Plan {
+        plan: Plan,
+        cost: u32,
+        patterns: usize,
+    },
+    /// No plan is sound: none even passes all the patterns listed. The list is whole.
+    NoPlan { patterns: usize },
+    /// The list would be longer than its room. All words hold the list's beginning, so `patterns`
+    /// is their number; whether there is a plan is open.
+    NoRoom { patterns: usize },
+    /// The sheet is turned down, and the list is as it was.
+    Refused(Refusal),
+}
+
+/// What [`short_run`] gives.
+#[derive(Clone, Copy, Debug, PartialEq, Eq)]
+pub enum ShortRun {
+    /// The best plan that passes the given patterns, and its cost. It need not be sound.
+    Plan { plan: Plan, cost: u32 },
+    /// No plan passes the given patterns.
+    NoPlan,
+    /// The sheet is turned down, or a pattern that it does not have (number 11).
+    Refused(Refusal),
+}
+
+/// What [`rating`] gives.
+#[derive(Clone, Copy, Debug, PartialEq, Eq)]
+pub enum Rating {
+    /// The plan passes every pattern.
+    Sound { cost: u32 },
+    /// The plan does not pass every pattern. This is the smallest that it does not pass.
+    NotSound { cost: u32, pattern: Pattern },
+    /// The sheet is turned down, or a plan that it does not have (number 10).
+    Refused(Refusal),
+}
+
+impl From<Found> for Answer {
+    fn from(found: Found) -> Answer {
+        let patterns = found.length;
+        match found.number {
+            0 => Answer::Plan {
+                plan: Plan(found.plan),
+                cost: found.cost,
+                patterns,
+            },
+            8 => Answer::NoPlan { patterns },
+            9 => Answer::NoRoom { patterns },
+            number => Answer::Refused(Refusal {
+                number,
+                place: found.place,
+            }),
+        }
+    }
+}
+
+impl From<Found> for ShortRun {
+    fn from(found: Found) -> ShortRun {
+        match found.number {
+            0 => ShortRun::Plan {
+                plan: Plan(found.plan),
+                cost: found.cost,
+            },
+            8 => ShortRun::NoPlan,
+            number => ShortRun::Refused(Refusal {
+                number,
+                place: found.place,
+            }),
+        }
+    }
+}
+
+impl From<Rated> for Rating {
+    fn from(rated: Rated) -> Rating {
+        let cost = rated.cost;
+        match (rated.number, rated.sound) {
+            (0, 0) => Rating::NotSound {
+                cost,
+                pattern: Pattern(rated.pattern),
+            },
+            (0, _) => Rating::Sound { cost },
+            (number, _) => Rating::Refused(Refusal {
+                number,
+                place: rated.place,
+            }),
+        }
+    }
+}
+
+/// The best sound plan of a sheet. The patterns that the search needed, in the order in which it
+/// met them, are written to the beginning of `list`, which may have any length and content.
+pub fn answer(sheet: &[u8], list: &mut [u32]) -> Answer {
+    figures::answer(sheet, list).into()
+}
+
+/// The best plan that passes these patterns, which may be in any order and repeated.
+///
+/// Over the patterns that [`answer`] listed, all of them, it gives the same plan and cost, or that
+/// there is none:
+///
+/// ```
+/// use comzsered::{answer, short_run, Answer, Plan, ShortRun};
+///
+/// // The one switch must be on, and is wished to be off.
+/// let sheet = b"H    1    1    0\nR    1    0    0\nW   -1    0    0\nZ    3    0    0\n";
+/// let mut list = [0; 2];
+/// assert_eq!(answer(sheet, &mut list), Answer::Plan { plan: Plan(1), cost: 1, patterns: 1 });
+/// assert_eq!(short_run(sheet, &list[..1]), ShortRun::Plan { plan: Plan(1), cost: 1 });
+/// // Over no pattern at all the cheapest plan of all is the best.
+/// assert_eq!(short_run(sheet, &[]), ShortRun::Plan { plan: Plan(0), cost: 0 });
+/// ```
+pub fn short_run(sheet: &[u8], patterns: &[u32]) -> ShortRun {
+    figures::short_run(sheet, patterns).into()
+}
+
+/// What a plan costs, and whether it is sound.
+///
+/// ```
+/// use comzsered::{rating, Pattern, Plan, Rating};
+///
+/// // The switch or the fault must be true, and the switch is wished to be off.
+/// let sheet = b"H    1    1    0\nO    1    2    0\nR    3    0    0\nW   -1    0    0\nZ    4    0    0\n";
+/// assert_eq!(rating(sheet, Plan(0)), Rating::NotSound { cost: 0, pattern: Pattern(0) });
+/// assert_eq!(rating(sheet, Plan(1)), Rating::Sound { cost: 1 });
+///
+/// let Rating::Refused(refusal) = rating(sheet, Plan(2)) else { panic!() };
+/// assert_eq!(refusal.number, 10);
+/// ```
+pub fn rating(sheet: &[u8], plan: Plan) -> Rating {
+    figures::rating(sheet, plan.0).into()
+}
+
+/// What the program `plan` prints for this sheet: the answer with a list of 4,096 words, in lines
+/// of 17 bytes.
+///
+/// ```
+/// let sheet = b"H    0    1    0\nR    1    0    0\nZ    2    0    0\n";
+/// let printed = b"A    8    0    0\nF    1    0    0\nZ    2    0    0\n";
+/// assert_eq!(comzsered::listing(sheet), printed);
+/// ```
+pub fn listing(sheet: &[u8]) -> Vec<u8> {
+    let mut out = vec![0; LISTING_MAX];
+    let length = figures::listing(sheet, &mut out);
+    out.truncate(length);
+    out
+}
+
+#[cfg(test)]
+mod tests {
+    use super::*;
+
+    /// A sheet written short, as "H 1 0; Z 1": numbers left out are 0.
+    fn sheet(short: &str) -> Vec<u8> {
+        let mut bytes = Vec::new();
+        for line in short.split(';') {
+            let mut words = line.split_whitespace();
+            bytes.extend(words.next().expect("a letter").bytes());
+            for _ in 0..3 {
+                bytes.extend(format!("{:>5}", words.next().unwrap_or("0")).bytes());
+            }
+            bytes.push(b'\n');
+        }
+        bytes
+    }
+
+    const SAMPLE: &str = "H 2 2; O 1 2; O 3 4; O 5 6; R 7; W -1; W -2; Z 7";
+    const FOLLOWER: &str = "H 1 1; N 1; N 2; A 1 2; A 3 4; O 5 6; R 7; Z 7";
+
+    fn refused(number: u32, place: usize) -> Refusal {
+        Refusal { number, place }
+    }
+
+    #[test]
+    fn answers() {
+        let mut list = [77; 4];
+        let plan = Answer::Plan {
+            plan: Plan(1),
+            cost: 1,
+            patterns: 1,
+        };
+        assert_eq!(answer(&sheet(SAMPLE), &mut list), plan);
+        assert_eq!(list, [0, 77, 77, 77]);
+
+        let mut list = [77; 4];
+        let none = Answer::NoPlan { patterns: 2 };
+        assert_eq!(answer(&sheet(FOLLOWER), &mut list), none);
+        assert_eq!(list, [1, 0, 77, 77]);
+
+        let mut list = [77; 1];
+        let no_room = Answer::NoRoom { patterns: 1 };
+        assert_eq!(answer(&sheet(FOLLOWER), &mut list), no_room);
+        assert_eq!(list, [1]);
+
+        let mut list = [77; 4];
+        let wrong = Answer::Refused(refused(1, 0));
+        assert_eq!(answer(b"", &mut list), wrong);
+        let wrong = Answer::Refused(refused(7, 2));
+        assert_eq!(answer(&sheet("H; Z 2"), &mut list), wrong);
+        assert_eq!(list, [77; 4]);
+    }
+
+    #[test]
+    fn short_runs() {
+        let plan = |plan, cost| ShortRun::Plan {
+            plan: Plan(plan),
+            cost,
+        };
+        assert_eq!(short_run(&sheet(SAMPLE), &[]), plan(0, 0));
+        assert_eq!(short_run(&sheet(SAMPLE), &[0, 3, 0]), plan(1, 1));
+        assert_eq!(short_run(&sheet(FOLLOWER), &[0, 1]), ShortRun::NoPlan);
+        assert_eq!(
+            short_run(&sheet(SAMPLE), &[3, 4]),
+            ShortRun::Refused(refused(11, 2))
+        );
+        assert_eq!(
+            short_run(&sheet("H"), &[9]),
+            ShortRun::Refused(refused(3, 1))
+        );
+    }
+
+    #[test]
+    fn ratings() {
+        let sample = sheet(SAMPLE);
+        assert_eq!(rating(&sample, Plan(3)), Rating::Sound { cost: 2 });
+        let pattern = Pattern(0);
+        assert_eq!(
+            rating(&sample, Plan(0)),
+            Rating::NotSound { cost: 0, pattern }
+        );
+        assert_eq!(rating(&sample, Plan(4)), Rating::Refused(refused(10, 0)));
+        assert_eq!(
+            rating(&sheet("H 21"), Plan(0)),
+            Rating::Refused(refused(3, 1))
+        );
+    }
+
+    #[test]
+    fn listings() {
+        let printed = "\
+A    0    0    1
+S    1    0    0
+S    2    1    0
+W    1    1    0
+W    2    0    0
+F    1    0    0
+Z    6    0    0
+";
+        assert_eq!(listing(&sheet(SAMPLE)), printed.as_bytes());
+        let mut short = vec![77; LISTING_MAX - 1];
+        assert_eq!(figures::listing(&sheet(SAMPLE), &mut short), 0);
+        assert!(short.iter().all(|&byte| byte == 77));
+    }
+
+    /// Each number of Answer and Short run becomes one case and loses no figure of it.
+    #[test]
+    fn every_number_of_a_search() {
+        for number in 0..=12 {
+            let found = Found {
+                number,
+                place: 5,
+                plan: 6,
+                cost: 7,
+                length: 8,
+            };
+            let (plan, cost, patterns) = (Plan(6), 7, 8);
+            let refusal = refused(number, 5);
+            let (answer, short_run) = match number {
+                0 => (
+                    Answer::Plan {
+                        plan,
+                        cost,
+                        patterns,
+                    },
+                    ShortRun::Plan { plan, cost },
+                ),
+                8 => (Answer::NoPlan { patterns }, ShortRun::NoPlan),
+                9 => (Answer::NoRoom { patterns }, ShortRun::Refused(refusal)),
+                _ => (Answer::Refused(refusal), ShortRun::Refused(refusal)),
+            };
+            assert_eq!(Answer::from(found), answer);
+            assert_eq!(ShortRun::from(found), short_run);
+        }
+    }
+
+    #[test]
+    fn every_number_of_a_rating() {
+        for number in 0..=12 {
+            let rated = |sound| Rated {
+                number,
+                place: 5,
+                cost: 7,
+                sound,
+                pattern: 3,
+                length: 0,
+            };
+            let (sound, not_sound) = match number {
+                0 => (
+                    Rating::Sound { cost: 7 },
+                    Rating::NotSound {
+                        cost: 7,
+                        pattern: Pattern(3),
+                    },
+                ),
+                _ => {
+                    let refusal = Rating::Refused(refused(number, 5));
+                    (refusal, refusal)
+                }
+            };
+            assert_eq!(Rating::from(rated(1)), sound);
+            assert_eq!(Rating::from(rated(0)), not_sound);
+        }
+    }
+
+    #[test]
+    fn refusals_in_words() {
+        let said = |number, place| refused(number, place).to_string();
+        assert_eq!(
+            said(1, 0),
+            "the sheet's length is 0, above 9,010 or no multiple of 17"
+        );
+        for number in 2..=7 {
+            assert!(said(number, 12).starts_with("line 12: "), "{number}");
+        }
+        assert!(!said(10, 0).contains('0'));
+        assert!(said(11, 3).starts_with("pattern 3 of the given ones: "));
+        assert_eq!(said(99, 4), "refused with number 99, place 4");
+        let all: std::collections::BTreeSet<String> = (1..=12).map(|n| said(n, 1)).collect();
+        assert_eq!(all.len(), 12);
+    }
+
+    #[test]
+    fn digits() {
+        assert_eq!([1, 2, 3].map(|k| Plan(6).is_on(k, 3)), [true, true, false]);
+        assert_eq!([1, 2].map(|k| Pattern(1).has(k, 2)), [false, true]);
+    }
+}

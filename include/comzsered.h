@@ -1,0 +1,156 @@
+/*
+ * comzsered: the proved planner, for C and C++ on x86-64.
+ *
+ * A planning sheet tells of switches that are set once, faults that may then occur in any
+ * combination, rules that must hold whatever the faults are, and wishes about the switches. The
+ * planner finds the setting of the switches that keeps every rule under every combination of faults
+ * and breaks as few wishes as possible. docs/FORMAT.md describes sheets and every rule in full.
+ *
+ * Link with target/staticlib/libplanner.a, which 'rt staticlib planner' builds:
+ *
+ *     cc -I include program.c target/staticlib/libplanner.a -o program
+ *
+ * Words used below
+ *
+ *   plan      A setting of all switches, as a number. Its binary digits are the switches, switch 1
+ *             being the highest and 1 meaning on. With a switches the plans are 0 to 2^a - 1.
+ *   pattern   A combination of faults, as a number in the same way. With f faults the patterns are
+ *             0 to 2^f - 1; without any fault there is the one pattern 0.
+ *   passes    A plan passes a pattern when all rules are true under the two.
+ *   sound     A plan is sound when it passes every pattern.
+ *   cost      How many wishes a plan breaks; one with the same literals as an earlier one is left
+ *             out.
+ *   better    A plan is better than another if its cost is lower or, at equal cost, its number is
+ *             smaller.
+ *   list      The patterns that the search needed, in the order in which it met them. It starts
+ *             empty. The candidate is the best plan that passes all listed patterns. Without a
+ *             candidate there is no plan. A sound candidate is the answer. Otherwise the smallest
+ *             pattern that the candidate does not pass is added, and the search goes on. No pattern
+ *             comes twice. L is the length of the list at the end.
+ *
+ * The number
+ *
+ *   Answer, short run and rating return a number, and write a place. Both are 0 when the job is
+ *   done. Lines are counted from 1.
+ *
+ *    number  cause                                                              place
+ *    ------  -----------------------------------------------------------------  ----------------
+ *         0  none: the job is done                                              0
+ *         1  the sheet's length is 0, above 9,010 or no multiple of 17          0
+ *         2  the line is malformed, or its letter is unknown                    the line
+ *         3  the letter is not allowed at this line                             the line
+ *         4  the number of switches (0 to 20) or of faults (0 to 16) is out     1
+ *            of its range
+ *         5  the line is gate 401, rule 65 or wish 65                           the line
+ *         6  a point or literal is not allowed here, an unused field is not     the line
+ *            0, or a literal follows a 0
+ *         7  the count of lines on the Z line is wrong                          the line
+ *         8  there is no plan: for answer over all patterns, for short run      0
+ *            over the given ones
+ *         9  the list is longer than the list_len words lent for it             0
+ *        10  the plan to be rated is 2^a or more                                0
+ *        11  a given pattern is 2^f or more                                     the first such
+ *                                                                               one's position,
+ *                                                                               from 1
+ *
+ *   The causes are tried in this order, and the first that applies is returned: 1; the lines from
+ *   the first, each for 2 to 7; 10 or 11; 9; 8. So 9 comes before 8: a list that is too short for
+ *   the search is told as 9 even where there is no plan.
+ *
+ * What holds for every call
+ *
+ *   - Any bytes may be passed as a sheet, and any numbers: wrong ones are refused. Nothing is kept
+ *     from one call to the next, and calls may be made from several threads at once.
+ *   - No pointer may be null, also where the length beside it is 0.
+ *   - The figures' pointers must be valid and point to different places. All figures are written in
+ *     every case; those that the outcome does not name are 0.
+ *   - Buffers do not overlap each other or the figures. The sheet and the patterns are only read.
+ *   - The time grows with 2^a and 2^f: a sheet with many switches and faults may take very long.
+ */
+#ifndef COMZSERED_H
+#define COMZSERED_H
+
+#include <stddef.h>
+#include <stdint.h>
+
+#ifdef __cplusplus
+extern "C" {
+#endif
+
+/* The longest sheet: 530 lines of 17 bytes. */
+#define COMZSERED_SHEET_MAX 9010
+
+/* The longest list: there are at most 2^16 patterns. With so many words there is no number 9. */
+#define COMZSERED_LIST_MAX 65536
+
+/* The longest listing: 4,182 lines of 17 bytes. */
+#define COMZSERED_LISTING_MAX 71094
+
+/*
+ * Answer: the best sound plan of a sheet.
+ *
+ * Lend list_len words for the list, as many as you like; what they hold at first does not matter.
+ *
+ *   returned  *plan     *cost     *length   list afterwards
+ *   --------  --------  --------  --------  ----------------------------------------------------
+ *   0         the plan  its cost  L         the first L words are the list, the others untouched
+ *   8         0         0         L         the first L words are the list, the others untouched
+ *   9         0         0         list_len  all words hold the list's beginning
+ *   1 to 7    0         0         0         untouched
+ *
+ * *place is as in the table of numbers.
+ */
+uint32_t comzsered_answer(const uint8_t *sheet, size_t sheet_len, uint32_t *list, size_t list_len,
+                          size_t *place, uint32_t *plan, uint32_t *cost, size_t *length);
+
+/*
+ * Short run: the best plan that passes the given patterns. They may come in any order and be
+ * repeated. The plan need not pass any other pattern: rate it to see whether it is sound.
+ *
+ *   returned      *plan      *cost
+ *   ------------  ---------  ---------
+ *   0             the plan   its cost
+ *   8             0          0          no plan passes them all
+ *   11            0          0          *place is the position of the first one that is too large
+ *   1 to 7        0          0
+ *
+ * *length is always 0, and no buffer is written.
+ *
+ * After an answer with 0 or 8 the short run over the listed patterns returns the same number, plan
+ * and cost. Over fewer of them, from the first on, it returns 0 with a plan whose smallest pattern
+ * not passed is the next listed one. After 9 that holds over all listed patterns too.
+ */
+uint32_t comzsered_short_run(const uint8_t *sheet, size_t sheet_len, const uint32_t *patterns,
+                             size_t pattern_count, size_t *place, uint32_t *plan, uint32_t *cost,
+                             size_t *length);
+
+/*
+ * Rating: what a plan is worth.
+ *
+ *   returned         *cost      *sound   *pattern
+ *   ---------------  ---------  -------  ----------------------------------------------
+ *   0                its cost   1        0
+ *   0                its cost   0        the smallest pattern that the plan does not pass
+ *   10, or 1 to 7    0          0        0
+ *
+ * *length is always 0, and no buffer is written.
+ */
+uint32_t comzsered_rating(const uint8_t *sheet, size_t sheet_len, uint32_t plan, size_t *place,
+                          uint32_t *cost, uint32_t *sound, uint32_t *pattern, size_t *length);
+
+/*
+ * Listing: what the program 'plan' prints for these bytes as its input. It is the answer with a
+ * list of 4,096 words, as lines of the shape that a sheet's lines have: A with number, place and
+ * cost; after 0 an S line for each switch (1 on, 0 off) and a W line for each wish (1 kept,
+ * 0 broken); after 0, 8 and 9 an F line for each listed pattern; Z with the number of lines before.
+ *
+ * Returns the length of the listing, which stands in the first bytes of out; the others are
+ * untouched. If out_len is below COMZSERED_LISTING_MAX it returns 0, and all of out is untouched.
+ */
+size_t comzsered_listing(const uint8_t *sheet, size_t sheet_len, uint8_t *out, size_t out_len);
+
+#ifdef __cplusplus
+}
+#endif
+
+#endif

@@ -1,0 +1,197 @@
+#!/bin/sh
+# The proved library with its header, its binding and its examples, and the planner's program:
+# what they give is held to stored files and to the brute force.
+# The last line is 'N passed, M failed'; the exit status is 0 exactly if M is 0.
+set -u
+
+passed=0
+failed=0
+
+# Every way out goes through here, so that the counts are always the last line.
+finish() {
+    echo "$passed passed, $failed failed"
+    if [ "$failed" -eq 0 ]; then exit 0; else exit 1; fi
+}
+
+step() { echo "-- $*"; }
+
+fail() {
+    echo "FAILED: $*"
+    failed=$((failed + 1))
+}
+
+pass() {
+    echo ok
+    passed=$((passed + 1))
+}
+
+cd "$(dirname "$0")/../.." || { fail "cannot enter the repository"; finish; }
+root=$(pwd -P)
+work=$(mktemp -d) || { fail "cannot make a temporary folder"; finish; }
+trap 'rm -rf "$work"' EXIT
+trap 'fail "interrupted"; finish' HUP INT TERM
+
+archive=$root/target/staticlib/libplanner.a
+program=$root/target/bin/plan
+# The archive of this repository is meant, whatever the caller's own settings are.
+unset COMZSERED_LIB_DIR
+
+# Runs a command with no input. Its output is shown as it comes and kept in $work/out; its exit
+# status is left in $status.
+show() {
+    echo 1 >"$work/status"
+    { "$@" </dev/null 2>&1; echo $? >"$work/status"; } | tee "$work/out"
+    status=$(cat "$work/status")
+}
+
+# One test: that the command succeeds.
+one_test() { # NAME COMMAND...
+    step "$1"
+    name=$1
+    shift
+    show "$@"
+    if [ "$status" -eq 0 ]; then pass; else fail "$name: exit status $status"; fi
+}
+
+# Adds the last line of what a command shows, 'N passed, M failed'.
+counted() { # NAME COMMAND...
+    step "$1"
+    name=$1
+    shift
+    show "$@"
+    last=$(tail -n 1 "$work/out")
+    if ! printf '%s\n' "$last" | grep -Eqx '(0|[1-9][0-9]*) passed, (0|[1-9][0-9]*) failed'; then
+        fail "$name: its last line is not 'N passed, M failed' (exit status $status)"
+        return
+    fi
+    n=${last%% *}
+    m=${last#* passed, }
+    m=${m%% *}
+    passed=$((passed + n))
+    failed=$((failed + m))
+    if [ "$status" -ne 0 ] && [ "$m" -eq 0 ]; then
+        fail "$name: exit status $status, though it counts no failure"
+    fi
+    if [ "$n" -eq 0 ] && [ "$m" -eq 0 ]; then fail "$name: nothing was tried"; fi
+}
+
+# Adds what 'cargo test' says of its tests.
+cargo_tests() { # NAME COMMAND...
+    step "$1"
+    name=$1
+    shift
+    show "$@"
+    counts=$(sed -n 's/^test result: [^.]*\. \([0-9]*\) passed; \([0-9]*\) failed;.*/\1 \2/p' "$work/out" |
+        awk '{ n += $1; m += $2 } END { if (NR) print n, m }')
+    if [ -z "$counts" ] || [ "$counts" = "0 0" ]; then
+        fail "$name: no result (exit status $status)"
+        return
+    fi
+    passed=$((passed + ${counts% *}))
+    failed=$((failed + ${counts#* }))
+    if [ "$status" -ne 0 ] && [ "${counts#* }" -eq 0 ]; then
+        fail "$name: exit status $status, though it counts no failure"
+    fi
+}
+
+# A program that never ends must not keep this one from ending.
+limited() { # SECONDS COMMAND...
+    if command -v timeout >/dev/null; then timeout "$@"; else shift && "$@"; fi
+}
+
+for tool in rt gcc nm cargo rustc; do
+    if ! command -v "$tool" >/dev/null; then
+        fail "$tool is not installed"
+        finish
+    fi
+done
+
+# ---- the archive
+
+# An archive of an earlier run must not stand for one that could not be built.
+rm -f "$archive"
+one_test "rt staticlib planner" rt staticlib planner
+if [ ! -f "$archive" ]; then
+    fail "target/staticlib/libplanner.a was not built, so nothing that links it was tried"
+    finish
+fi
+
+# ---- the header
+
+# The calls that the header declares are those that the archive defines.
+same_calls() {
+    grep -o 'comzsered_[a-z_]*(' include/comzsered.h | tr -d '(' | sort -u >"$work/declared"
+    nm -g --defined-only "$archive" | awk 'NF == 3 && $3 ~ /^comzsered_/ { print $3 }' |
+        sort -u >"$work/defined"
+    [ -s "$work/declared" ] && diff "$work/declared" "$work/defined"
+}
+
+warnings='-Wall -Wextra -pedantic -Werror'
+# Twice, so that a missing guard shows.
+printf '#include "comzsered.h"\n#include "comzsered.h"\nint nothing;\n' >"$work/header.c"
+one_test "the header in C" gcc -std=c99 $warnings -I include -fsyntax-only "$work/header.c"
+if command -v g++ >/dev/null; then
+    one_test "the header in C++" g++ $warnings -I include -fsyntax-only -x c++ "$work/header.c"
+else
+    echo "-- the header in C++ was not tried: there is no g++"
+fi
+one_test "the header's calls are the archive's" same_calls
+
+# ---- the examples
+
+# What an example program prints for its own sheet and for those of examples/.
+example_output() { # PROGRAM
+    for name in '' sample redundant-box no-plan malformed; do
+        echo "== ${name:-built in}"
+        if [ -z "$name" ]; then
+            limited 60 "$1" 2>&1
+        else
+            limited 60 "$1" "examples/$name.sheet" 2>&1
+        fi
+        echo "exit status $?"
+    done
+}
+
+prints() { # PROGRAM FILE
+    example_output "$1" >"$work/printed"
+    diff "$2" "$work/printed"
+}
+
+in_folder() { # FOLDER COMMAND...
+    (cd "$1" && shift && "$@")
+}
+
+one_test "the C example is built" \
+    gcc -std=c99 -O2 $warnings -I include examples/c/answer.c "$archive" -o "$work/answer"
+one_test "the C example" prints "$work/answer" examples/c/answer.expected
+
+bindings=$root/target/bindings
+one_test "the Rust example is built" in_folder bindings/rust \
+    cargo build --offline --locked --target-dir "$bindings" --example answer
+one_test "the Rust example" \
+    prints "$bindings/debug/examples/answer" bindings/rust/examples/answer.expected
+
+# ---- the binding
+
+cargo_tests "cargo test of bindings/rust" in_folder bindings/rust \
+    cargo test --offline --locked --target-dir "$bindings"
+
+# ---- the comparisons
+
+built=$root/target/tests
+one_test "the comparisons are built" in_folder tests \
+    cargo build --release --offline --locked --target-dir "$built" --features library
+if [ "$status" -ne 0 ]; then
+    fail "the comparisons were not run, as they were not built"
+    finish
+fi
+
+counted "the library against the brute force" limited 1200 "$built/release/compare-library"
+if [ -x "$program" ]; then
+    counted "the program against the brute force" \
+        limited 1200 "$built/release/compare-program" "$program" examples/*.sheet
+else
+    fail "the program was not compared, as there is no target/bin/plan"
+fi
+
+finish

@@ -1,0 +1,270 @@
+//! Sheets with their outcomes worked out by hand, for the brute force and the library alike.
+
+use planner_tests::brute::{listing, Found, Planner, Rated};
+use planner_tests::generate::sheet;
+use planner_tests::oracle::{read, Refusal};
+
+use crate::check::Check;
+
+/// A job on a sheet and what it gives.
+enum Job {
+    /// Answer with so much room: the figures and the list.
+    Answer(usize, Found, Vec<u32>),
+    ShortRun(Vec<u32>, Found),
+    Rating(u32, Rated),
+    Listing(&'static str),
+}
+
+struct Example {
+    name: &'static str,
+    bytes: Vec<u8>,
+    job: Job,
+}
+
+const E3: &str = "H 2 2; O 1 2; O 3 4; O 5 6; R 7; W -1; W -2; Z 7";
+const E3_LISTING: &str = "\
+A    0    0    1
+S    1    0    0
+S    2    1    0
+W    1    1    0
+W    2    0    0
+F    1    0    0
+Z    6    0    0
+";
+const E4: &str = "H 0 1; R 1; Z 2";
+const E7: &str = "H 1 1; N 1; N 2; A 1 2; A 3 4; O 5 6; R 7; Z 7";
+
+fn refused(number: u32, place: usize) -> Found {
+    Refusal { number, place }.into()
+}
+
+fn plan(plan: u32, cost: u32) -> Found {
+    Found {
+        plan,
+        cost,
+        ..Found::default()
+    }
+}
+
+fn examples() -> Vec<Example> {
+    let example = |name, bytes, job| Example { name, bytes, job };
+    let answer = |name, short: &str, room, figures: Found, list: &[u32]| {
+        let length = list.len();
+        let figures = Found { length, ..figures };
+        example(
+            name,
+            sheet(short),
+            Job::Answer(room, figures, list.to_vec()),
+        )
+    };
+    let short_run = |name, short: &str, patterns: &[u32], figures| {
+        example(
+            name,
+            sheet(short),
+            Job::ShortRun(patterns.to_vec(), figures),
+        )
+    };
+    let rating =
+        |name, short: &str, plan, figures| example(name, sheet(short), Job::Rating(plan, figures));
+    let not_rated = Rated {
+        number: 10,
+        ..Rated::default()
+    };
+    let sound = |cost| Rated {
+        cost,
+        sound: 1,
+        ..Rated::default()
+    };
+    // A position that does not fit into 16 bits.
+    let mut far = vec![0; 70_000];
+    far.push(4);
+    let far_place = far.len();
+    vec![
+        example(
+            "E1, no sheet",
+            vec![],
+            Job::Answer(3, refused(1, 0), vec![]),
+        ),
+        answer("E2, the smallest sheet", "H; Z 1", 3, plan(0, 0), &[]),
+        answer("E3, the sample", E3, 3, plan(1, 1), &[0]),
+        answer("E3, room for any list", E3, 65_536, plan(1, 1), &[0]),
+        example("E3, listing", sheet(E3), Job::Listing(E3_LISTING)),
+        answer("E4, no plan", E4, 3, refused(8, 0), &[0]),
+        answer("E5, no plan and no room", E4, 0, refused(9, 0), &[]),
+        answer(
+            "E6, a broken wish",
+            "H 1 1; R 1; W -1; Z 3",
+            3,
+            plan(1, 1),
+            &[0],
+        ),
+        answer(
+            "E7, a switch that follows a fault",
+            E7,
+            3,
+            refused(8, 0),
+            &[1, 0],
+        ),
+        answer("E7, room for one word", E7, 1, refused(9, 0), &[1]),
+        answer(
+            "E8, a repeated wish",
+            "H 1 0; R 1; W -1; W -1; Z 4",
+            3,
+            plan(1, 1),
+            &[0],
+        ),
+        answer("E9, an empty wish", "H; W; Z 2", 0, plan(0, 1), &[]),
+        short_run("E10, short run over no pattern", E3, &[], plan(0, 0)),
+        short_run("E10, short run over pattern 0", E3, &[0], plan(1, 1)),
+        answer(
+            "E11, the most switches and faults",
+            "H 20 16; Z 1",
+            0,
+            plan(0, 0),
+            &[],
+        ),
+        answer("E11, 21 switches", "H 21 0; Z 1", 0, refused(4, 1), &[]),
+        answer("E11, 17 faults", "H 20 17; Z 1", 0, refused(4, 1), &[]),
+        answer(
+            "E12, a gate names itself",
+            "H 1 0; O 1 2; Z 2",
+            3,
+            refused(6, 2),
+            &[],
+        ),
+        answer(
+            "E13, a literal after 0",
+            "H 1 0; W 0 1 0; Z 2",
+            3,
+            refused(6, 2),
+            &[],
+        ),
+        answer("E13, a wrong count", "H; Z 2", 3, refused(7, 2), &[]),
+        answer("E13, H alone", "H", 3, refused(3, 1), &[]),
+        rating("E14, plan 3", E3, 3, sound(2)),
+        rating("E14, plan 4", E3, 4, not_rated),
+        short_run("E14, short run over 3, 4", E3, &[3, 4], refused(11, 2)),
+        short_run("a far pattern", E3, &far, refused(11, far_place)),
+        // The rule asks for switch 2, and the one wish, {-1, 2}, is kept.
+        answer("a full sheet", &full(), 9, plan(1, 0), &[0]),
+        answer("64 broken wishes", &all_broken(), 9, plan(0xff, 64), &[0]),
+        rating("64 broken wishes, rating", &all_broken(), 0xff, sound(64)),
+        answer("20 switches on", &all_on(), 9, plan(0xf_ffff, 0), &[0]),
+        rating("20 switches on, rating", &all_on(), 0xf_ffff, sound(0)),
+        rating("20 switches, plan 2^20", &all_on(), 0x10_0000, not_rated),
+        answer(
+            "16 faults together",
+            &all_faults(),
+            9,
+            plan(1, 1),
+            &[0xffff],
+        ),
+        short_run(
+            "16 faults, pattern 2^16",
+            &all_faults(),
+            &[0x1_0000],
+            refused(11, 1),
+        ),
+        example(
+            "no sheet, listing",
+            b"\n".to_vec(),
+            Job::Listing("A    1    0    0\nZ    1    0    0\n"),
+        ),
+    ]
+}
+
+/// As many lines of each kind as there may be.
+fn full() -> String {
+    let gates = "A 1 3; ".repeat(400);
+    let rules = "R 2; ".repeat(64);
+    let wishes = "W -1 2; ".repeat(64);
+    format!("H 2 1; {gates}{rules}{wishes}Z 529")
+}
+
+/// Eight switches have to be on, and 64 different wishes ask for some of them to be off.
+fn all_broken() -> String {
+    let rules: String = (1..=8).map(|k| format!("R {k}; ")).collect();
+    let mut wishes = Vec::new();
+    for i in 1..=8 {
+        wishes.push(format!("W -{i}; "));
+        for j in i + 1..=8 {
+            wishes.push(format!("W -{i} -{j}; "));
+            wishes.extend((j + 1..=8).map(|k| format!("W -{i} -{j} -{k}; ")));
+        }
+    }
+    wishes.truncate(64);
+    format!("H 8 0; {rules}{}Z 73", wishes.concat())
+}
+
+/// Twenty switches have to be on.
+fn all_on() -> String {
+    let rules: String = (1..=20).map(|k| format!("R {k}; ")).collect();
+    format!("H 20 0; {rules}Z 21")
+}
+
+/// The one switch has to be on only because all sixteen faults may occur together.
+fn all_faults() -> String {
+    let gates: String = (4..=17).map(|p| format!("A {} {p}; ", p + 14)).collect();
+    format!("H 1 16; A 2 3; {gates}N 32; O 1 33; R 34; W -1; Z 20")
+}
+
+/// What the brute force gives for a job, in words, to be held to the example.
+fn brute_force(example: &Example) -> String {
+    let read = read(&example.bytes);
+    let planner = read.clone().map(Planner::new);
+    match (&example.job, planner) {
+        (Job::Answer(..), Err(refusal)) => format!("{:?} []", Found::from(refusal)),
+        (Job::Answer(room, ..), Ok(planner)) => {
+            let run = planner.run(*room);
+            let found = planner.answer(&run, *room);
+            format!("{found:?} {:?}", &run.list[..found.length])
+        }
+        (Job::ShortRun(..), Err(refusal)) => format!("{:?}", Found::from(refusal)),
+        (Job::ShortRun(patterns, _), Ok(planner)) => format!("{:?}", planner.short_run(patterns)),
+        (Job::Rating(..), Err(refusal)) => format!("{:?}", Rated::from(refusal)),
+        (Job::Rating(plan, _), Ok(planner)) => format!("{:?}", planner.rating(*plan)),
+        (Job::Listing(_), _) => listing(&example.bytes),
+    }
+}
+
+fn by_hand(job: &Job) -> String {
+    match job {
+        Job::Answer(_, found, list) => format!("{found:?} {list:?}"),
+        Job::ShortRun(_, found) => format!("{found:?}"),
+        Job::Rating(_, rated) => format!("{rated:?}"),
+        Job::Listing(printed) => printed.to_string(),
+    }
+}
+
+/// Tries all examples and prints one line for each. Returns how many passed and how many failed.
+pub fn try_all() -> (u64, u64) {
+    let (mut passed, mut failed) = (0, 0);
+    for example in examples() {
+        let mut check = Check::new(&example.bytes, 0, 0);
+        let (brute, hand) = (brute_force(&example), by_hand(&example.job));
+        if brute != hand {
+            let trouble = format!("the brute force says {brute}, not {hand}");
+            check.troubles.push(trouble);
+        }
+        match &example.job {
+            Job::Answer(room, found, list) => {
+                check.answer(*room, *found, list);
+            }
+            Job::ShortRun(patterns, found) => {
+                check.short_run(patterns, *found);
+            }
+            Job::Rating(plan, rated) => {
+                check.rating(*plan, *rated);
+            }
+            Job::Listing(printed) => check.listing(printed),
+        }
+        if check.troubles.is_empty() {
+            passed += 1;
+            println!("{}: ok", example.name);
+        } else {
+            failed += 1;
+            println!("{}: FAIL\n{}", example.name, check.troubles.join("\n"));
+        }
+    }
+    (passed, failed)
+}

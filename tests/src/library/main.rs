@@ -1,0 +1,205 @@
+//! Compares the proved library with the brute force: every job on many sheets, whole and damaged.
+//!
+//! Usage: compare-library [--seconds T] [--count N] [--seed S] [--index I] [--trace 1]
+//!
+//! It stops after N sheets or T seconds, whichever comes first. Without --seed it takes the sheets
+//! of all fixed seeds and of a fresh one in turn. With --index it tries that one sheet of each seed.
+//! With --trace each sheet is named before it is tried: so one that the library does not survive
+//! can be found.
+
+mod check;
+mod examples;
+mod tally;
+
+use std::process::ExitCode;
+use std::sync::atomic::{AtomicBool, AtomicU64, Ordering};
+use std::sync::Mutex;
+use std::thread;
+use std::time::{Duration, Instant};
+
+use check::Check;
+use planner_tests::options::Options;
+use planner_tests::oracle::LINE;
+use planner_tests::planning::{class, planning_sheet, Class};
+use tally::Calls;
+
+/// Sheets and seconds at most, unless the options say otherwise.
+const COUNT: u64 = 100_000;
+const SECONDS: u64 = 180;
+/// Fewer sheets than this, without options, are a failure: the machine or the library is too slow
+/// for the comparison to say much.
+const FEWEST: u64 = 20_000;
+const WORKERS: usize = 2;
+/// The stack of a worker: what a program's main thread usually has.
+const STACK: usize = 8 << 20;
+const STOP_AFTER: u64 = 20;
+/// The troubles of one sheet that are shown.
+const SHOWN: usize = 4;
+
+const USAGE: &str =
+    "usage: compare-library [--seconds T] [--count N] [--seed S] [--index I] [--trace 1]";
+
+/// The gates worked out at most for the sheets of a class.
+fn budget(class: Class) -> u64 {
+    match class {
+        Class::Small => 8_000_000,
+        Class::Medium => 40_000_000,
+        Class::Wide => 60_000_000,
+        Class::Large => 400_000_000,
+        Class::Long => 4_000_000_000,
+    }
+}
+
+fn main() -> ExitCode {
+    let names = ["--seconds", "--count", "--seed", "--index", "--trace"];
+    let options = Options::from_command_line(&names).filter(|o| o.words.is_empty());
+    let Some(options) = options else {
+        eprintln!("{USAGE}");
+        println!("0 passed, 1 failed");
+        return ExitCode::FAILURE;
+    };
+    let mut total = Total::default();
+    (total.passed, total.failed) = examples::try_all();
+    match options.number("--index") {
+        Some(index) => one_sheet(&options, index, &mut total),
+        None => many_sheets(&options, &mut total),
+    }
+    println!("{} passed, {} failed", total.passed, total.failed);
+    if total.failed == 0 {
+        ExitCode::SUCCESS
+    } else {
+        ExitCode::FAILURE
+    }
+}
+
+/// What came of all sheets.
+#[derive(Default)]
+struct Total {
+    passed: u64,
+    failed: u64,
+    sheets: u64,
+    calls: Calls,
+}
+
+fn one_sheet(options: &Options, index: u64, total: &mut Total) {
+    for seed in options.seeds() {
+        println!("{}", described(seed, index));
+        let troubles = try_sheet(seed, index, &mut total.calls);
+        println!("{}", troubles.join("\n"));
+        total.add(troubles.is_empty());
+    }
+    total.calls.show();
+}
+
+fn many_sheets(options: &Options, total: &mut Total) {
+    let began = Instant::now();
+    let stopped = try_sheets(options, total);
+    let calls = total.calls.all();
+    println!(
+        "{} sheets, {calls} calls in {:.1} seconds",
+        total.sheets,
+        began.elapsed().as_secs_f64()
+    );
+    total.calls.show();
+    let chosen = options.number("--seed").is_some() || options.number("--count").is_some();
+    if chosen || stopped {
+        return;
+    }
+    let mut missing = total.calls.too_rare();
+    if total.sheets < FEWEST {
+        missing = vec![format!("fewer than {FEWEST} sheets were tried")];
+    }
+    for text in missing {
+        println!("FAIL: {text}");
+        total.failed += 1;
+    }
+}
+
+impl Total {
+    fn add(&mut self, ok: bool) {
+        self.sheets += 1;
+        if ok {
+            self.passed += 1;
+        } else {
+            self.failed += 1;
+        }
+    }
+}
+
+/// Tries the sheets of all seeds in turn, until the count, the time or too many failures. Returns
+/// whether it was the failures.
+fn try_sheets(options: &Options, total: &mut Total) -> bool {
+    let seeds = options.seeds();
+    let count = options.number("--count").unwrap_or(COUNT);
+    let seconds = options.number("--seconds").unwrap_or(SECONDS);
+    let trace = options.number("--trace").is_some();
+    let end = Instant::now() + Duration::from_secs(seconds);
+    let next = AtomicU64::new(0);
+    let stopped = AtomicBool::new(false);
+    let shared = Mutex::new(total);
+    let work = || {
+        let mut calls = Calls::default();
+        loop {
+            let job = next.fetch_add(1, Ordering::Relaxed);
+            if job >= count || stopped.load(Ordering::Relaxed) || Instant::now() >= end {
+                break;
+            }
+            let seed = seeds[(job % seeds.len() as u64) as usize];
+            let index = job / seeds.len() as u64;
+            if trace {
+                println!("seed {seed}, index {index}");
+            }
+            let troubles = try_sheet(seed, index, &mut calls);
+            let mut total = shared.lock().expect("no worker panics");
+            total.add(troubles.is_empty());
+            if !troubles.is_empty() {
+                println!("FAIL: {}", described(seed, index));
+                println!("{}", troubles.join("\n"));
+                stopped.fetch_or(total.failed >= STOP_AFTER, Ordering::Relaxed);
+            }
+        }
+        let mut total = shared.lock().expect("no worker panics");
+        total.calls.add(&calls);
+    };
+    let workers = thread::available_parallelism().map_or(1, |n| n.get());
+    thread::scope(|scope| {
+        for _ in 0..workers.min(WORKERS) {
+            thread::Builder::new()
+                .stack_size(STACK)
+                .spawn_scoped(scope, work)
+                .expect("a thread");
+        }
+    });
+    let stopped = stopped.into_inner();
+    if stopped {
+        println!("stopped after {STOP_AFTER} failures");
+    }
+    stopped
+}
+
+/// All jobs on one sheet. Returns what went wrong, the first of it.
+fn try_sheet(seed: u64, index: u64, calls: &mut Calls) -> Vec<String> {
+    let made = planning_sheet(seed, index);
+    let mut check = Check::new(&made.bytes, seed, index);
+    check.all_jobs(budget(class(index)));
+    calls.add(&check.calls);
+    let more = check.troubles.len().saturating_sub(SHOWN);
+    check.troubles.truncate(SHOWN);
+    if more > 0 {
+        check.troubles.push(format!("and {more} more"));
+    }
+    check.troubles
+}
+
+/// A sheet with its seed and index, in such a way that every byte can be seen.
+fn described(seed: u64, index: u64) -> String {
+    let made = planning_sheet(seed, index);
+    let lines = made.bytes.chunks(LINE).map(|line| line.escape_ascii());
+    let text: Vec<String> = lines.map(|line| format!("  {line}")).collect();
+    format!(
+        "seed {seed}, index {index} ({}), {} bytes:\n{}",
+        made.kind,
+        made.bytes.len(),
+        text.join("\n")
+    )
+}

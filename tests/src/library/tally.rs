@@ -1,0 +1,204 @@
+//! What came of the sheets and calls, and whether each outcome came often enough to be tested.
+
+use planner_tests::brute::{End, Planner, Run};
+
+/// The numbers that a job can return: 0 and the refusals.
+const NUMBERS: usize = 12;
+
+/// How the room lent compares with the list.
+#[derive(Clone, Copy)]
+pub enum Room {
+    None,
+    Less,
+    Whole,
+    More,
+}
+
+impl Room {
+    const NAMES: [&'static str; 4] = ["no room", "less", "the list's length", "more"];
+
+    pub fn of(room: usize, run: &Run) -> Room {
+        match room {
+            0 => Room::None,
+            _ if room < run.list.len() => Room::Less,
+            _ if room == run.list.len() => Room::Whole,
+            _ => Room::More,
+        }
+    }
+}
+
+/// List lengths that are counted, each with those above it.
+const LENGTHS: [usize; 6] = [1, 2, 5, 12, 30, 100];
+
+/// The calls for one sheet or for many, by their outcome.
+#[derive(Clone, Default)]
+pub struct Calls {
+    answers: [u64; NUMBERS],
+    short_runs: [u64; NUMBERS],
+    ratings: [u64; NUMBERS],
+    sound: u64,
+    pub listings: u64,
+    pub rooms: [u64; Room::NAMES.len()],
+    /// Sheets whose list has at least so many words, with a plan and without.
+    plans: [u64; LENGTHS.len()],
+    no_plans: [u64; LENGTHS.len()],
+    /// Sheets whose list is as long as there are plans, and as there are patterns.
+    all_plans: u64,
+    all_patterns: u64,
+}
+
+/// Counts a number. One that no job can return is counted nowhere: the comparison reports it.
+fn count(numbers: &mut [u64; NUMBERS], number: u32) {
+    if let Some(n) = numbers.get_mut(number as usize) {
+        *n += 1;
+    }
+}
+
+fn add<const N: usize>(to: &mut [u64; N], from: &[u64; N]) {
+    for (a, b) in to.iter_mut().zip(from) {
+        *a += b;
+    }
+}
+
+impl Calls {
+    pub fn answered(&mut self, number: u32) {
+        count(&mut self.answers, number);
+    }
+
+    pub fn ran_short(&mut self, number: u32) {
+        count(&mut self.short_runs, number);
+    }
+
+    pub fn rated(&mut self, number: u32, sound: u32) {
+        count(&mut self.ratings, number);
+        self.sound += u64::from(number == 0 && sound == 1);
+    }
+
+    /// The list of one sheet.
+    pub fn listed(&mut self, run: &Run, planner: &Planner) {
+        let sheets = match run.end {
+            End::Plan(_) => &mut self.plans,
+            End::NoPlan => &mut self.no_plans,
+            End::Left => return,
+        };
+        for (sheet, at_least) in sheets.iter_mut().zip(LENGTHS) {
+            *sheet += u64::from(run.list.len() >= at_least);
+        }
+        let length = run.list.len();
+        self.all_plans += u64::from(length == planner.plans() as usize);
+        self.all_patterns += u64::from(length == planner.patterns() as usize);
+    }
+
+    pub fn add(&mut self, other: &Calls) {
+        add(&mut self.answers, &other.answers);
+        add(&mut self.short_runs, &other.short_runs);
+        add(&mut self.ratings, &other.ratings);
+        add(&mut self.rooms, &other.rooms);
+        add(&mut self.plans, &other.plans);
+        add(&mut self.no_plans, &other.no_plans);
+        self.sound += other.sound;
+        self.listings += other.listings;
+        self.all_plans += other.all_plans;
+        self.all_patterns += other.all_patterns;
+    }
+
+    pub fn all(&self) -> u64 {
+        let sum = |numbers: &[u64]| numbers.iter().sum::<u64>();
+        sum(&self.answers) + sum(&self.short_runs) + sum(&self.ratings) + self.listings
+    }
+
+    pub fn show(&self) {
+        println!("number   answers  short runs   ratings");
+        for number in 0..NUMBERS {
+            println!(
+                "{number:>6}  {:>8}  {:>10}  {:>8}",
+                self.answers[number], self.short_runs[number], self.ratings[number]
+            );
+        }
+        println!(
+            "sound plans rated: {}, listings: {}",
+            self.sound, self.listings
+        );
+        for (name, rooms) in Room::NAMES.iter().zip(self.rooms) {
+            println!("answers of accepted sheets with room, {name}: {rooms}");
+        }
+        println!("list of at least  sheets with a plan  without one");
+        for (k, at_least) in LENGTHS.iter().enumerate() {
+            let (plans, none) = (self.plans[k], self.no_plans[k]);
+            println!("{at_least:>16}  {plans:>18}  {none:>11}");
+        }
+        println!(
+            "lists as long as there are plans: {}, patterns: {}",
+            self.all_plans, self.all_patterns
+        );
+    }
+
+    /// What hardly came was hardly tested: each such outcome, in words.
+    pub fn too_rare(&self) -> Vec<String> {
+        let mut rare = Vec::new();
+        let mut at_least = |fewest: u64, came: u64, what: String| {
+            if came < fewest {
+                rare.push(format!("{what} came {came} times, fewer than {fewest}"));
+            }
+        };
+        for number in 0..NUMBERS {
+            let (answer, short_run, rating) = match number {
+                0 => (1_000, 1_000, 1_000),
+                8 => (1_000, 1_000, 0),
+                9 => (1_000, 0, 0),
+                10 => (0, 0, 1_000),
+                11 => (0, 1_000, 0),
+                // A sheet of 401 gates, 65 rules or 65 wishes comes from one recipe only.
+                5 => (50, 50, 50),
+                _ => (200, 200, 200),
+            };
+            at_least(answer, self.answers[number], format!("answer {number}"));
+            at_least(
+                short_run,
+                self.short_runs[number],
+                format!("short run {number}"),
+            );
+            at_least(rating, self.ratings[number], format!("rating {number}"));
+        }
+        at_least(1_000, self.sound, "a sound plan".into());
+        at_least(
+            1_000,
+            self.ratings[0] - self.sound,
+            "a plan not sound".into(),
+        );
+        at_least(1_000, self.listings, "a listing".into());
+        for (name, rooms) in Room::NAMES.iter().zip(self.rooms) {
+            at_least(1_000, rooms, format!("room, {name}"));
+        }
+        for (k, fewest) in [2_000, 1_000, 400, 50, 5, 0].into_iter().enumerate() {
+            let length = LENGTHS[k];
+            at_least(
+                fewest,
+                self.plans[k],
+                format!("a plan after {length} patterns"),
+            );
+            at_least(
+                fewest,
+                self.no_plans[k],
+                format!("no plan after {length} patterns"),
+            );
+        }
+        let longest = LENGTHS.len() - 1;
+        at_least(
+            1,
+            self.plans[longest] + self.no_plans[longest],
+            "the longest list".into(),
+        );
+        at_least(
+            100,
+            self.all_plans,
+            "a list as long as there are plans".into(),
+        );
+        at_least(
+            100,
+            self.all_patterns,
+            "a list as long as there are patterns".into(),
+        );
+        rare
+    }
+}

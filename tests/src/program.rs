@@ -1,0 +1,140 @@
+//! Compares the planner's program with the brute force: what it prints, byte for byte.
+//!
+//! Usage: compare-program PROGRAM [SHEET...] [--count N] [--seed S]
+//!
+//! PROGRAM is run once for each of N sheets, and for each file SHEET, as its standard input. With
+//! --seed only the sheets of that seed are tried.
+
+use std::process::ExitCode;
+
+use planner_tests::brute::{listing, refused_listing, End, Planner};
+use planner_tests::effort::Effort;
+use planner_tests::options::Options;
+use planner_tests::oracle::{read, LINE, MAX_BYTES};
+use planner_tests::planning::planning_sheet;
+use planner_tests::process::difference;
+
+/// Sheets, unless --count says otherwise.
+const COUNT: u64 = 1_500;
+/// The gates worked out at most for one sheet. Those with more work are left out.
+const BUDGET: u64 = 100_000_000;
+const STOP_AFTER: u64 = 20;
+
+const USAGE: &str = "usage: compare-program PROGRAM [SHEET...] [--count N] [--seed S]";
+
+fn main() -> ExitCode {
+    let options = Options::from_command_line(&["--count", "--seed"]);
+    let Some(options) = options.filter(|o| !o.words.is_empty()) else {
+        eprintln!("{USAGE}");
+        println!("0 passed, 1 failed");
+        return ExitCode::FAILURE;
+    };
+    let mut tally = Tally {
+        program: options.words[0].clone(),
+        passed: 0,
+        failed: 0,
+    };
+    for name in &options.words[1..] {
+        tally.try_file(name);
+    }
+    for (name, bytes) in lengths() {
+        tally.try_bytes(name, &bytes);
+    }
+    tally.try_seeds(&options);
+    println!("{} passed, {} failed", tally.passed, tally.failed);
+    if tally.failed == 0 {
+        ExitCode::SUCCESS
+    } else {
+        ExitCode::FAILURE
+    }
+}
+
+/// Inputs of the lengths at which the program stops reading.
+fn lengths() -> Vec<(&'static str, Vec<u8>)> {
+    let filled = |length| vec![b' '; length];
+    vec![
+        ("no input", filled(0)),
+        ("input of the longest sheet's length", filled(MAX_BYTES)),
+        ("input of one byte more", filled(MAX_BYTES + 1)),
+        ("input of one line more", filled(MAX_BYTES + LINE)),
+        ("a long input", filled(60_000)),
+    ]
+}
+
+struct Tally {
+    program: String,
+    passed: u64,
+    failed: u64,
+}
+
+impl Tally {
+    fn try_file(&mut self, name: &str) {
+        match std::fs::read(name) {
+            Ok(bytes) => self.try_bytes(name, &bytes),
+            Err(error) => {
+                println!("{name}: FAIL: {error}");
+                self.failed += 1;
+            }
+        }
+    }
+
+    fn try_bytes(&mut self, name: &str, bytes: &[u8]) {
+        let differs = difference(&self.program, bytes, &listing(bytes));
+        match &differs {
+            None => println!("{name}: ok"),
+            Some(text) => println!("{name}: FAIL\n{text}"),
+        }
+        self.count(differs.is_none());
+    }
+
+    fn count(&mut self, ok: bool) {
+        if ok {
+            self.passed += 1;
+        } else {
+            self.failed += 1;
+        }
+    }
+
+    /// The sheets of all seeds in turn.
+    fn try_seeds(&mut self, options: &Options) {
+        let seeds = options.seeds();
+        let count = options.number("--count").unwrap_or(COUNT);
+        let (mut tried, mut left_out) = (0, 0);
+        for job in 0.. {
+            if tried == count {
+                break;
+            }
+            let seed = seeds[(job % seeds.len() as u64) as usize];
+            let index = job / seeds.len() as u64;
+            let bytes = planning_sheet(seed, index).bytes;
+            let Some(expected) = expected(&bytes) else {
+                left_out += 1;
+                continue;
+            };
+            tried += 1;
+            let differs = difference(&self.program, &bytes, &expected);
+            if let Some(text) = &differs {
+                println!("FAIL: seed {seed}, index {index}, {} bytes:", bytes.len());
+                println!("{}\n{text}", bytes.escape_ascii());
+            }
+            self.count(differs.is_none());
+            if self.failed >= STOP_AFTER {
+                println!("stopped after {} failures", self.failed);
+                break;
+            }
+        }
+        println!("{tried} sheets, {left_out} left out as too long to answer");
+    }
+}
+
+/// What the program is to print; none if its search would take too long.
+fn expected(bytes: &[u8]) -> Option<String> {
+    let sheet = match read(bytes) {
+        Ok(sheet) => sheet,
+        Err(refusal) => return Some(refused_listing(refusal)),
+    };
+    let longest = Effort::new(&sheet, BUDGET).longest_list();
+    let planner = Planner::new(sheet);
+    let run = planner.run(longest);
+    (run.end != End::Left).then(|| planner.listing(&run))
+}
