@@ -196,6 +196,3 @@ wrote-more out at rs qs middle now m end p q room = record {
   size = ap length (rows-append rs qs) ∙ omega (arith, length-append (rowsBytes rs) (rowsBytes qs), length-append rs qs, p .size, q .size);
   end-is = omega (arith, p .end-is, q .end-is, length-append rs qs);
 }
-
-pub wrote-length : (out : List ℕ) (at : ℕ) (rs : List Row) (now : List ℕ) (end : ℕ) → Wrote out at rs now end → end ≤ length out → length now ≡ length out
-wrote-length out at rs now end p room = ap length (p .bytes) ∙ length-put out at (rowsBytes rs) (omega (arith, p .size, p .end-is))

@@ -1,11 +1,11 @@
 -- What is claimed of the definitions, each claim with its proof. Assumes nothing.
 use Prim.Native.Nat.{ℕ, _≤_, _<_}
-use mathlib.Core.Bool.{true}
-use mathlib.Core.List.{List}
+use mathlib.Core.Bool.{true, false}
+use mathlib.Core.List.{List, []}
 use mathlib.Core.Logic.{_↔_}
 use mathlib.Core.Option.{some}
 use mathlib.Core.Path.{_≡_}
-use Rattle.scope.specs.Sheet.{Number, field, fits, Line, Clause, Gate, Sheet, sheet, sheetBytes, fieldCount, All, Valid}
+use Rattle.scope.specs.Sheet.{Number, number, field, fits, Line, Clause, Gate, Sheet, sheet, sheetBytes, fieldCount, All, Valid}
 use Rattle.scope.specs.Reading.{fieldOf, lineOf, accepted, refused, read}
 use Rattle.scope.specs.Causes.{Cause, SheetRefusal}
 use lib.ListN.{length, getD, take}
@@ -19,7 +19,7 @@ use Rattle.scope.specs.laws.Lines.{Printed}
 use Rattle.scope.specs.laws.Refusals as refusals
 use Rattle.scope.specs.laws.Inverse as inverse
 use Rattle.scope.specs.laws.Wishes as wishes
-use Rattle.scope.specs.laws.Wishes.{Reordered}
+use Rattle.scope.specs.laws.Wishes.{In, Reordered}
 use Rattle.scope.specs.laws.Picks.{Before}
 use Rattle.scope.specs.laws.Rules as rules
 use Rattle.scope.specs.laws.Rules.{lead}
@@ -40,6 +40,10 @@ line-read = lines.line-iff
 pub sheet-read : (n : ℕ) → 3 ≤ n → (s : List ℕ) (t : Sheet) → (read n s ≡ accepted t) ↔ ((s ≡ sheetBytes n t) × Valid t)
 sheet-read = inverse.read-iff
 
+-- and two valid sheets that are printed alike are the same
+pub sheet-printed-once : (n : ℕ) → 3 ≤ n → (t u : Sheet) → Valid t → Valid u → sheetBytes n t ≡ sheetBytes n u → t ≡ u
+sheet-printed-once = inverse.printed-once
+
 -- it is refused exactly if the cause is there and no earlier one is
 pub sheet-refused : (n : ℕ) (s : List ℕ) (c place : ℕ) → (read n s ≡ refused c place) ↔ Cause n s c place
 sheet-refused = refusals.refused-iff
@@ -50,11 +54,21 @@ refusal-number = refusals.cause-number
 
 -- ---- plans
 
--- of two wishes with the same set both are kept or both broken, and the order of wishes does not count
+-- of two wishes with the same set both are kept or both broken
 pub wishes-alike : (t : Sheet) (plan : ℕ) (u w : Clause) → sameSet u w ≡ true → kept t plan u ≡ kept t plan w
 unfolding kept
 wishes-alike t plan = wishes.same-keeps (switchOn t plan)
 
+-- one that holds k and -k is never broken, and one with no literal always
+pub both-kept : (t : Sheet) (plan k : ℕ) (w : Clause) → In (number false k) w → In (number true k) w → kept t plan w ≡ true
+unfolding kept
+both-kept t plan = wishes.both-kept (switchOn t plan)
+
+pub none-kept : (t : Sheet) (plan : ℕ) → kept t plan [] ≡ false
+unfolding kept
+none-kept t plan = wishes.none-kept (switchOn t plan)
+
+-- the order of wishes does not count
 pub order-free : (a f : ℕ) (gs : List Gate) (rs : List ℕ) {ws us : List Clause} (plan : ℕ) → Reordered ws us → cost (sheet a f gs rs ws) plan ≡ cost (sheet a f gs rs us) plan
 order-free = wishes.cost-order
 

@@ -9,27 +9,12 @@ use Rattle.scope.specs.Jobs.{task}
 use Rattle.circuit.specs.Lent.{wishSheet}
 
 module _ (t : Sheet) (plan : ℕ) where
-  abbrev gates-only : Sheet
-  gates-only = sheet (t .switches) (t .faults) (t .gates) [] []
-
   abbrev no-wishes : Sheet
   no-wishes = sheet (t .switches) (t .faults) (t .gates) (t .rules) []
-
-  pub truth-of : (pattern point : ℕ) → truth gates-only plan pattern point ≡ truth t plan pattern point
-  unfolding truth
-  truth-of pattern point = refl
-
-  pub passes-of : (pattern : ℕ) → passes no-wishes plan pattern ≡ passes t plan pattern
-  unfolding passes truth
-  passes-of pattern = refl
 
   pub missed-of : missed (task no-wishes) plan ≡ missed (task t) plan
   unfolding missed passes truth
   missed-of = refl
-
-  pub kept-of : (w : Clause) → kept (wishSheet (t .switches) []) plan w ≡ kept t plan w
-  unfolding kept switchOn
-  kept-of w = refl
 
   pub cost-of : cost (wishSheet (t .switches) (t .wishes)) plan ≡ cost t plan
   unfolding cost switchOn

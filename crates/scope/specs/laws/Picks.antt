@@ -24,10 +24,6 @@ ahead-antisym h g = omega (arith, h .first (omega arith), g .first (omega arith)
 abbrev pub Before : (cost : ℕ → ℕ) → ℕ → ℕ → Type 0
 Before cost a b = (cost a < cost b) ⊎ ((cost a ≡ cost b) × (a < b))
 
-pub not-before : {cost : ℕ → ℕ} {a b : ℕ} → Ahead cost a b → ¬ Before cost b a
-not-before h (inl l) = omega arith
-not-before h (inr e) = omega (arith, h .first (omega arith))
-
 pub before : {cost : ℕ → ℕ} {a b : ℕ} → Ahead cost a b → a ≢ b → Before cost a b
 before {cost} {a} {b} h n = go (eq-or-lt-of-le (h .cheap))
   where
