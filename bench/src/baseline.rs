@@ -1,0 +1,348 @@
+//! The baseline: the jobs of docs/FORMAT.md in plain Rust, written for speed in the ordinary way.
+//! The method is the proved planner's: recursion over the gates with no memory of what is known,
+//! all plans and all patterns tried in a loop, a plan's cost looked at before its patterns.
+
+use comzsered::figures::{Found, Rated};
+
+const LINE: usize = 17;
+const MAX_LINES: usize = 530;
+
+/// A sheet's tables, a column for each field. Wishes that repeat an earlier one are left out.
+pub struct Tables {
+    a: u32,
+    f: u32,
+    kind: Vec<u8>,
+    left: Vec<u32>,
+    right: Vec<u32>,
+    rules: Vec<u32>,
+    wishes: Vec<[i32; 3]>,
+}
+
+// ---- reading
+
+/// The number in a field of five columns.
+fn number(field: &[u8]) -> Option<i32> {
+    let spaces = field.iter().take_while(|&&b| b == b' ').count();
+    let (negative, digits) = match &field[spaces..] {
+        [b'-', rest @ ..] => (true, rest),
+        rest => (false, rest),
+    };
+    if digits.is_empty() || (digits[0] == b'0' && (digits.len() > 1 || negative)) {
+        return None;
+    }
+    let mut value = 0;
+    for &b in digits {
+        if !b.is_ascii_digit() {
+            return None;
+        }
+        value = value * 10 + i32::from(b - b'0');
+    }
+    Some(if negative { -value } else { value })
+}
+
+fn part(letter: u8) -> Option<u32> {
+    match letter {
+        b'H' => Some(0),
+        b'N' | b'A' | b'O' => Some(1),
+        b'R' => Some(2),
+        b'W' => Some(3),
+        b'Z' => Some(4),
+        _ => None,
+    }
+}
+
+fn line(bytes: &[u8]) -> Option<(u8, u32, i32, i32, i32)> {
+    let part = part(bytes[0])?;
+    let first = number(&bytes[1..6])?;
+    let second = number(&bytes[6..11])?;
+    let third = number(&bytes[11..16])?;
+    (bytes[16] == b'\n').then_some((bytes[0], part, first, second, third))
+}
+
+/// Whether two wishes are the same set of literals.
+fn same_set(x: &[i32; 3], y: &[i32; 3]) -> bool {
+    let within = |x: &[i32; 3], y: &[i32; 3]| x.iter().all(|l| *l == 0 || y.contains(l));
+    within(x, y) && within(y, x)
+}
+
+/// The tables, or the number and place of the refusal.
+pub fn read(bytes: &[u8]) -> Result<Tables, (u32, usize)> {
+    if bytes.is_empty() || bytes.len() % LINE != 0 || bytes.len() > MAX_LINES * LINE {
+        return Err((1, 0));
+    }
+    let lines = bytes.len() / LINE;
+    let mut t = Tables {
+        a: 0,
+        f: 0,
+        kind: Vec::with_capacity(lines),
+        left: Vec::with_capacity(lines),
+        right: Vec::with_capacity(lines),
+        rules: Vec::with_capacity(64),
+        wishes: Vec::with_capacity(64),
+    };
+    let mut wishes = 0;
+    let mut part_before = 0;
+    for (before, bytes) in bytes.chunks_exact(LINE).enumerate() {
+        let place = before + 1;
+        let Some((letter, part, p, q, r)) = line(bytes) else {
+            return Err((2, place));
+        };
+        let (first, last) = (before == 0, place == lines);
+        if (letter == b'H') != first || (letter == b'Z') != last || part < part_before {
+            return Err((3, place));
+        }
+        part_before = part;
+        let points = (t.a + t.f) as i32 + t.kind.len() as i32;
+        let is_point = |p: i32| 1 <= p && p <= points;
+        let a = t.a as i32;
+        let is_literal = |l: i32| -a <= l && l <= a;
+        let full;
+        let fits;
+        match letter {
+            b'H' => {
+                if !(0..=20).contains(&p) || !(0..=16).contains(&q) {
+                    return Err((4, place));
+                }
+                (t.a, t.f) = (p as u32, q as u32);
+                full = false;
+                fits = r == 0;
+            }
+            b'N' => {
+                full = t.kind.len() == 400;
+                fits = is_point(p) && q == 0 && r == 0;
+            }
+            b'A' | b'O' => {
+                full = t.kind.len() == 400;
+                fits = is_point(p) && is_point(q) && r == 0;
+            }
+            b'R' => {
+                full = t.rules.len() == 64;
+                fits = is_point(p) && q == 0 && r == 0;
+            }
+            b'W' => {
+                full = wishes == 64;
+                let first_zeros = (p == 0 && q != 0) || (q == 0 && r != 0);
+                fits = is_literal(p) && is_literal(q) && is_literal(r) && !first_zeros;
+            }
+            _ => {
+                full = false;
+                fits = q == 0 && r == 0;
+            }
+        }
+        if full {
+            return Err((5, place));
+        }
+        if !fits {
+            return Err((6, place));
+        }
+        match letter {
+            b'N' | b'A' | b'O' => {
+                t.kind.push(letter);
+                t.left.push(p as u32);
+                t.right.push(q as u32);
+            }
+            b'R' => t.rules.push(p as u32),
+            b'W' => {
+                wishes += 1;
+                let wish = [p, q, r];
+                if !t.wishes.iter().any(|earlier| same_set(earlier, &wish)) {
+                    t.wishes.push(wish);
+                }
+            }
+            b'Z' if p != before as i32 => return Err((7, place)),
+            _ => {}
+        }
+    }
+    Ok(t)
+}
+
+// ---- what a plan means
+
+/// How the cost of a plan is counted.
+pub trait Cost {
+    fn cost(&self, plan: u32) -> u32;
+}
+
+/// Literal by literal.
+struct Literals<'t> {
+    a: u32,
+    wishes: &'t [[i32; 3]],
+}
+
+impl Cost for Literals<'_> {
+    fn cost(&self, plan: u32) -> u32 {
+        let holds = |l: &i32| *l != 0 && (plan >> (self.a - l.unsigned_abs()) & 1 == 1) == (*l > 0);
+        self.wishes.iter().filter(|w| !w.iter().any(holds)).count() as u32
+    }
+}
+
+/// A wish as two masks: the switches that should be on, and those that should be off.
+struct Masks(Vec<(u32, u32)>);
+
+impl Masks {
+    fn new(t: &Tables) -> Masks {
+        let mask = |w: &[i32; 3], sign: i32| {
+            let of_sign = w.iter().filter(|&&l| l * sign > 0);
+            of_sign.fold(0, |m, l| m | 1 << (t.a - l.unsigned_abs()))
+        };
+        Masks(t.wishes.iter().map(|w| (mask(w, 1), mask(w, -1))).collect())
+    }
+}
+
+impl Cost for Masks {
+    fn cost(&self, plan: u32) -> u32 {
+        let broken = |&&(on, off): &&(u32, u32)| (plan & on) | (!plan & off) == 0;
+        self.0.iter().filter(broken).count() as u32
+    }
+}
+
+impl Tables {
+    fn truth(&self, plan: u32, pattern: u32, point: u32) -> bool {
+        if point <= self.a {
+            return plan >> (self.a - point) & 1 == 1;
+        }
+        let inputs = self.a + self.f;
+        if point <= inputs {
+            return pattern >> (inputs - point) & 1 == 1;
+        }
+        let i = (point - inputs - 1) as usize;
+        let truth = |point| self.truth(plan, pattern, point);
+        match self.kind[i] {
+            b'N' => !truth(self.left[i]),
+            b'A' => truth(self.left[i]) && truth(self.right[i]),
+            _ => truth(self.left[i]) || truth(self.right[i]),
+        }
+    }
+
+    fn passes(&self, plan: u32, pattern: u32) -> bool {
+        self.rules.iter().all(|&p| self.truth(plan, pattern, p))
+    }
+
+    fn first_missed(&self, plan: u32) -> Option<u32> {
+        (0..1 << self.f).find(|&pattern| !self.passes(plan, pattern))
+    }
+
+    /// The best plan that passes all listed patterns, and its cost.
+    fn best(&self, wishes: &impl Cost, list: &[u32]) -> Option<(u32, u32)> {
+        let mut best: Option<(u32, u32)> = None;
+        for plan in 0..1 << self.a {
+            let cost = wishes.cost(plan);
+            if best.is_none_or(|(_, least)| cost < least)
+                && list.iter().all(|&pattern| self.passes(plan, pattern))
+            {
+                best = Some((plan, cost));
+            }
+        }
+        best
+    }
+}
+
+// ---- the jobs
+
+const NOTHING: Found = Found {
+    number: 0,
+    place: 0,
+    plan: 0,
+    cost: 0,
+    length: 0,
+};
+
+fn refused((number, place): (u32, usize)) -> Found {
+    Found {
+        number,
+        place,
+        ..NOTHING
+    }
+}
+
+fn found(best: Option<(u32, u32)>, length: usize) -> Found {
+    match best {
+        Some((plan, cost)) => Found {
+            plan,
+            cost,
+            length,
+            ..NOTHING
+        },
+        None => Found {
+            number: 8,
+            length,
+            ..NOTHING
+        },
+    }
+}
+
+fn search(t: &Tables, wishes: &impl Cost, list: &mut [u32]) -> Found {
+    let mut length = 0;
+    loop {
+        let best = t.best(wishes, &list[..length]);
+        let Some(missed) = best.and_then(|(plan, _)| t.first_missed(plan)) else {
+            return found(best, length);
+        };
+        if length == list.len() {
+            return Found {
+                number: 9,
+                length,
+                ..NOTHING
+            };
+        }
+        list[length] = missed;
+        length += 1;
+    }
+}
+
+pub fn answer(sheet: &[u8], list: &mut [u32], masks: bool) -> Found {
+    match read(sheet) {
+        Ok(t) if masks => search(&t, &Masks::new(&t), list),
+        Ok(t) => search(&t, &t.literals(), list),
+        Err(refusal) => refused(refusal),
+    }
+}
+
+pub fn short_run(sheet: &[u8], patterns: &[u32], masks: bool) -> Found {
+    let t = match read(sheet) {
+        Ok(t) => t,
+        Err(refusal) => return refused(refusal),
+    };
+    if let Some(at) = patterns.iter().position(|&p| p >> t.f != 0) {
+        return refused((11, at + 1));
+    }
+    if masks {
+        found(t.best(&Masks::new(&t), patterns), 0)
+    } else {
+        found(t.best(&t.literals(), patterns), 0)
+    }
+}
+
+pub fn rating(sheet: &[u8], plan: u32) -> Rated {
+    let refused = |(number, place)| Rated {
+        number,
+        place,
+        cost: 0,
+        sound: 0,
+        pattern: 0,
+        length: 0,
+    };
+    let t = match read(sheet) {
+        Ok(t) => t,
+        Err(refusal) => return refused(refusal),
+    };
+    if plan >> t.a != 0 {
+        return refused((10, 0));
+    }
+    let missed = t.first_missed(plan);
+    Rated {
+        cost: t.literals().cost(plan),
+        sound: u32::from(missed.is_none()),
+        pattern: missed.unwrap_or(0),
+        ..refused((0, 0))
+    }
+}
+
+impl Tables {
+    fn literals(&self) -> Literals<'_> {
+        Literals {
+            a: self.a,
+            wishes: &self.wishes,
+        }
+    }
+}
