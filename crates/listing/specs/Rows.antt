@@ -4,15 +4,15 @@ use Prim.Native.Char.{code}
 use native.Mathlib.Nat.{pow-suc, sub-zero, add-zero, add-suc, suc-add}
 use native.Mathlib.Numerals.{add-one}
 use native.Mathlib.Omega.{arith}
-use mathlib.Core.Bool.{Bool, true, false, cond}
+use mathlib.Core.Bool.{cond}
 use mathlib.Core.List.{List, [], _∷_, _++_, append-assoc, append-nil}
 use mathlib.Core.Logic.{_≢_}
 use mathlib.Core.Path.{_≡_, refl, sym, ap, ap₂, _∙_}
-use lib.Dec.{eqb, ltb}
-use lib.ListN.{length, getD, take, drop, replicate, length-append, length-replicate, length-drop, take-append-drop}
+use lib.Dec.{eqb}
+use lib.ListN.{length, getD, take, drop, replicate, length-append, length-drop, take-append-drop}
 use lib.Seq.{length-take-le, take-at, drop-at, drop-drop, take-length, take-suc, paste}
-use borrow.Author.Tests.{eqb-true, eqb-false, eq-eqb, ne-eqb, lt-ltb, le-ltb, ltb-true, ltb-false}
-use Rattle.scope.specs.Sheet.{Number, plus, fieldSize, digit, decimal, signed, justified, field, fieldsBytes}
+use borrow.Author.Tests.{ne-eqb}
+use Rattle.scope.specs.Sheet.{plus, fieldSize, digit, decimal, justified, field, fieldsBytes}
 use Rattle.scope.specs.Program.{Row, rowsBytes, each}
 use Rattle.scope.specs.laws.Fields.{length-snoc, by-digits}
 

@@ -8,7 +8,6 @@ use crate::rows::put_switches;
 use crate::rows::put_wishes;
 use crate::rows::wide;
 use circuit::Plan;
-ghost use mathlib.Core.Path.{_≡_};
 ghost use Prim.Native.Nat.{_+_, _*_, _≤_, _<_};
 ghost use lib.ListN.{length};
 ghost use Rattle.circuit.specs.Lent.{Clauses, wishesOf};

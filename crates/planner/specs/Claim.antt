@@ -2,7 +2,7 @@
 use Prim.Native.Nat.{ℕ, _≤_}
 use mathlib.Core.List.{List, []}
 use mathlib.Core.Logic.{_≢_}
-use mathlib.Core.Path.{_≡_, refl, sym, ap, subst, _∙_}
+use mathlib.Core.Path.{_≡_, sym, subst}
 use lib.ListN.{take, length}
 use Rattle.scope.specs.Sheet.{Sheet, fieldCount}
 use Rattle.scope.specs.Reading.{accepted, refused, read}

@@ -2,8 +2,8 @@
 use Prim.Native.Nat.{ℕ}
 use mathlib.Core.List.{[]}
 use mathlib.Core.Path.{_≡_, refl}
-use Rattle.scope.specs.Sheet.{Clause, Sheet, sheet}
-use Rattle.scope.specs.Meaning.{distinct, broken, switchOn, truth, passes, kept, cost}
+use Rattle.scope.specs.Sheet.{Sheet, sheet}
+use Rattle.scope.specs.Meaning.{distinct, broken, switchOn, truth, passes, cost}
 use Rattle.scope.specs.Rule.{missed}
 use Rattle.scope.specs.Jobs.{task}
 use Rattle.circuit.specs.Lent.{wishSheet}

@@ -6,11 +6,6 @@ use Rattle.planner.specs.laws.Listing.{listing-within}
 use borrow.Author.Needs.{needs}
 use Rattle.plan.proofs.main.Statement.{statement}
 use Rattle.plan.proofs.main.Tie as tie
-use Rattle.plan.proofs.main.Reads as reads
-use Rattle.plan.proofs.main.Lts as lts
-use Rattle.io.proofs.read_full.Reads as read-full-reads
-use Rattle.io.proofs.write_all.Reads as write-all-reads
-use Rattle.planner.proofs.print.print_listing.Reads as print-listing-reads
 
 slice-aggregate-read-full : tie.Need-slice-aggregate-read-full
 slice-aggregate-read-full c = search needs

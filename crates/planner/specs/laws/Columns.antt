@@ -1,18 +1,14 @@
 -- The reader's tables, cut to their counts, are the columns of the sheet that was read. Assumes nothing.
-use Prim.Native.Nat.{ℕ, zero, suc, _+_, _-_, _*_, _/_, _%_, _≤_, _<_}
-use Prim.Native.Char.{code}
+use Prim.Native.Nat.{ℕ, _+_, _-_, _*_, _/_, _%_, _≤_}
 use native.Mathlib.Omega.{arith}
-use mathlib.Core.Bool.{Bool, true, false, cond}
-use mathlib.Core.List.{List, [], _∷_, _++_, map}
-use mathlib.Core.Path.{_≡_, refl, sym, ap, ap₂, subst, _∙_}
-use lib.Dec.{eqb}
-use lib.ListN.{length, getD, take, replicate, length-append, length-map}
+use mathlib.Core.Bool.{Bool, true, false}
+use mathlib.Core.List.{List, [], _∷_, map}
+use mathlib.Core.Path.{_≡_, refl, sym, ap, ap₂, _∙_}
+use lib.ListN.{length, take, replicate, length-append, length-map}
 use lib.Seq.{take-at}
 use borrow.Author.Tests.{eq-eqb, ne-eqb}
-use Rattle.scope.specs.Sheet.{Number, number, plus, Clause, Gate, Sheet, sheet, points, fieldCount, mostGates, mostRules, mostWishes, mostLiterals, All, Among, Ordered, Wish, Valid}
+use Rattle.scope.specs.Sheet.{Number, number, Clause, Gate, Sheet, sheet, mostGates, mostRules, mostWishes, All, Among, Wish, Valid}
 use Rattle.scope.specs.Reading.{Read, accepted, refused, started, read}
-use Rattle.scope.specs.Meaning.{distinct, broken, switchOn, passes, truth, cost}
-use Rattle.scope.specs.Jobs.{task}
 use Rattle.circuit.specs.Lent.{Columns, rows, gateOf, gatesOf, literalsOf, clauseOf, wishesOf, Gates, Clauses, circuit}
 use Rattle.sheet.specs.declared.tables.Tables.{Tables}
 use Rattle.sheet.specs.Tables.{padded, kindOf, leftOf, rightOf, pointOf, literalCode, literalAt, tables, outcome}

@@ -1,21 +1,20 @@
 -- What follows for a job from what was read. Assumes nothing.
-use Prim.Native.Nat.{ℕ, zero, suc, _+_, _^_, _≤_, _<_}
+use Prim.Native.Nat.{ℕ, zero, suc, _+_, _≤_, _<_}
 use native.Mathlib.Omega.{arith}
 use native.Mathlib.Numerals.{add-one}
 use mathlib.Core.Bool.{Bool, true, false, cond}
-use mathlib.Core.List.{List, [], _∷_, _++_}
+use mathlib.Core.List.{List, []}
 use mathlib.Core.Logic.{_≢_}
 use mathlib.Core.Option.{Option, none, some}
-use mathlib.Core.Path.{_≡_, refl, sym, ap, ap₂, subst, _∙_}
-use lib.Dec.{ltb}
+use mathlib.Core.Path.{_≡_, refl, sym, ap, ap₂, _∙_}
 use lib.ListN.{length, getD, take, drop, drop-of-length-le}
 use lib.Seq.{drop-cons, length-take-le}
 use borrow.Author.Tests.{lt-ltb, le-ltb}
 use Rattle.scope.specs.Sheet.{Clause, Sheet, sheet, fieldCount, All, Among, Valid}
-use Rattle.scope.specs.Reading.{Read, accepted, refused, read}
-use Rattle.scope.specs.Meaning.{plans, patterns, distinct, broken, switchOn, passes, truth, cost}
-use Rattle.scope.specs.Rule.{Task, Verdict, noRoom, verdictOf, Run, run, rule, missed, short, best}
-use Rattle.scope.specs.Jobs.{task, Result, refusal, found, result, over, answered, answerOf, answer, firstHigh, shortBelow, shortOf, shortRun, rated, unrated, rating}
+use Rattle.scope.specs.Reading.{accepted, refused, read}
+use Rattle.scope.specs.Meaning.{plans, patterns, distinct, switchOn, passes, truth, cost}
+use Rattle.scope.specs.Rule.{noRoom, verdictOf, Run, run, rule, missed, short, best}
+use Rattle.scope.specs.Jobs.{task, Result, refusal, found, result, over, answered, answerOf, answer, firstHigh, shortOf, shortRun, rated, unrated, rating}
 use Rattle.scope.specs.Jobs as jobs
 use Rattle.scope.specs.laws.Inverse.{read-iff}
 use Rattle.circuit.specs.Lent.{Gates, Clauses, circuit, wishesOf, wishSheet}
@@ -27,8 +26,6 @@ use Rattle.search.specs.Table.{table, Lent, bestOf, Priced, verdictFrom, Ran}
 use Rattle.sheet.specs.declared.tables.Tables.{Tables}
 use Rattle.sheet.specs.Tables.{outcome}
 use Rattle.sheet.specs.laws.Outcomes.{accepted-of, refused-of}
-use Rattle.planner.specs.declared.outcome.Outcome.{Outcome}
-use Rattle.planner.specs.Figures.{resultOf}
 use Rattle.planner.specs.laws.Columns.{Cut, cut-accepted, gates-fit, rules-fit, wishes-fit, wishes-are, circuit-is}
 
 -- ---- the sheet that was read

@@ -1,20 +1,20 @@
 -- The listing of what Answer returned is the program's output. Assumes nothing.
-use Prim.Native.Nat.{ℕ, zero, suc, _+_, _≤_, _<_}
+use Prim.Native.Nat.{ℕ, _+_, _≤_, _<_}
 use native.Mathlib.Omega.{arith}
 use mathlib.Core.Bool.{Bool, true, false, cond}
 use mathlib.Core.List.{List, [], _∷_, _++_}
 use mathlib.Core.Logic.{_≢_}
-use mathlib.Core.Path.{_≡_, refl, sym, ap, ap₂, subst, _∙_}
+use mathlib.Core.Path.{_≡_, refl, sym, ap, subst, _∙_}
 use lib.Dec.{eqb, ltb}
 use lib.ListN.{length, getD, take, drop, replicate, length-append, length-drop, length-replicate}
 use borrow.Author.Tests.{leb-true, lt-ltb, le-ltb, ne-eqb}
-use Rattle.scope.specs.Sheet.{Clause, Sheet, fieldCount, plus, fits, All, Valid}
-use Rattle.scope.specs.Reading.{Read, accepted, refused, started, read}
-use Rattle.scope.specs.Causes.{Cause, SheetRefusal, wrongLength, malformed, wrongLetter, outOfRange, tooMany, wrongField, wrongCount}
+use Rattle.scope.specs.Sheet.{Sheet, fieldCount, fits, All, Valid}
+use Rattle.scope.specs.Reading.{Read, accepted, refused, read}
+use Rattle.scope.specs.Causes.{SheetRefusal, wrongLength, malformed, wrongLetter, outOfRange, tooMany, wrongField, wrongCount}
 use Rattle.scope.specs.Meaning.{bits, kept, switchOn}
-use Rattle.scope.specs.Jobs.{Result, Answer, answerOf, answer, over}
+use Rattle.scope.specs.Jobs.{Answer, answerOf, answer, over}
 use Rattle.scope.specs.Demands.{listed}
-use Rattle.scope.specs.Program.{Row, row, each, switchRow, wishRow, patternRow, planRows, foundRows, answerRows, ended, room, outputRows, rowsBytes}
+use Rattle.scope.specs.Program.{Row, row, each, switchRow, wishRow, patternRow, planRows, answerRows, ended, room, outputRows, rowsBytes}
 use Rattle.scope.specs.laws.Refusals.{refused-iff, cause-number}
 use Rattle.scope.specs.laws.Outputs.{output-fits, listed-small}
 use Rattle.circuit.specs.Lent.{rows, Clauses, wishesOf, wishSheet}

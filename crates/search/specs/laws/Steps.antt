@@ -1,11 +1,11 @@
 -- What the steps of the search give, and their laws. Assumes nothing.
-use Prim.Native.Nat.{ℕ, zero, suc, _+_, _-_, _≤_, _<_}
+use Prim.Native.Nat.{ℕ, suc, _+_, _-_, _≤_, _<_}
 use native.Mathlib.Nat.{sub-zero}
 use native.Mathlib.Omega.{arith}
 use native.Mathlib.Numerals.{add-one}
-use mathlib.Core.Bool.{Bool, true, false, cond}
+use mathlib.Core.Bool.{Bool, true, false}
 use mathlib.Core.List.{List, [], _∷_, _++_}
-use mathlib.Core.Option.{Option, none, some}
+use mathlib.Core.Option.{none, some}
 use mathlib.Core.Path.{_≡_, refl, sym, ap, subst, _∙_}
 use lib.Dec.{ltb}
 use lib.ListN.{length, getD, take, drop, set, length-set, take-append-drop}
@@ -13,7 +13,7 @@ use lib.Seq.{length-take-le, take-suc-set, drop-set-lt, drop-drop}
 use Rattle.scope.specs.Sheet.{Clause, Sheet, mostWishes, All, Wish}
 use Rattle.scope.specs.Meaning.{distinct}
 use Rattle.scope.specs.Pick.{keep, pick}
-use Rattle.scope.specs.Rule.{Task, Verdict, noRoom, Run, run, verdictOf, passesAll, best, missed, missedBy, next, short, rule}
+use Rattle.scope.specs.Rule.{Task, Run, passesAll, best, missed, missedBy, next, short, rule}
 use Rattle.scope.specs.Jobs.{task, over}
 use Rattle.scope.specs.laws.Tests.{clash}
 use Rattle.scope.specs.laws.Picks.{pick-next}
@@ -29,7 +29,7 @@ use Rattle.search.specs.declared.best.Best.the-variants.{Nothing, At}
 use Rattle.search.specs.declared.run.Step.{Step}
 use Rattle.search.specs.declared.run.Step.the-variants.{Done, Add}
 use Rattle.search.specs.declared.run.Run as made
-use Rattle.search.specs.Table.{table, Lent, bestOf, Priced, verdictFrom, Ran}
+use Rattle.search.specs.Table.{table, Lent, bestOf, Priced, Ran}
 
 -- ---- a list is passed up to a pattern that is not
 

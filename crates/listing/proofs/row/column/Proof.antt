@@ -3,9 +3,6 @@ use Rattle.listing.specs.Rows.{column}
 use borrow.Author.Needs.{needs}
 use Rattle.listing.proofs.row.column.Statement.{statement}
 use Rattle.listing.proofs.row.column.Tie as tie
-use Rattle.listing.proofs.row.column.Reads as reads
-use Rattle.listing.proofs.row.column.Lts as lts
-use Rattle.listing.proofs.row.last_digit.Reads as last-digit-reads
 
 last-digit-requires : tie.Need-last-digit-requires
 last-digit-requires c κs = search needs

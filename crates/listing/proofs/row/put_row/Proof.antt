@@ -8,8 +8,6 @@ use Rattle.listing.specs.Rows.{all-put}
 use borrow.Author.Needs.{needs}
 use Rattle.listing.proofs.row.put_row.Statement.{statement}
 use Rattle.listing.proofs.row.put_row.Tie as tie
-use Rattle.listing.proofs.row.put_row.Reads as reads
-use Rattle.listing.proofs.row.put_row.Lts as lts
 
 abbrev Inv-loop : tie.InvT-loop
 Inv-loop out₀ at row j₀ out j = (j ≤ 17) × (out ≡ paste out₀ at row j)

@@ -2,10 +2,6 @@ use Rattle.listing.specs.Rows.{row-bytes}
 use borrow.Author.Needs.{needs}
 use Rattle.listing.proofs.row.row.Statement.{statement}
 use Rattle.listing.proofs.row.row.Tie as tie
-use Rattle.listing.proofs.row.row.Reads as reads
-use Rattle.listing.proofs.row.row.Lts as lts
-use Rattle.listing.proofs.row.column.Reads as column-reads
-use Rattle.listing.proofs.row.last_digit.Reads as last-digit-reads
 
 column-requires : tie.Need-column-requires
 column-requires c κs = search needs

@@ -1,5 +1,5 @@
 use Prim.Native.Nat.{_≤_, _-_}
-use mathlib.Core.Path.{_≡_, refl, sym, ap, _∙_}
+use mathlib.Core.Path.{_≡_, refl, ap, _∙_}
 use native.Mathlib.Omega.{arith}
 use lib.ListN.{length, getD}
 use borrow.Author.Needs.{needs}
@@ -7,11 +7,6 @@ use Rattle.scope.specs.Program.{patternRow}
 use Rattle.listing.specs.Rows.{Put, put-none, put-next, rowBytes}
 use Rattle.listing.proofs.rows.put_patterns.Statement.{statement}
 use Rattle.listing.proofs.rows.put_patterns.Tie as tie
-use Rattle.listing.proofs.rows.put_patterns.Reads as reads
-use Rattle.listing.proofs.rows.put_patterns.Lts as lts
-use Rattle.listing.proofs.row.put_row.Reads as put-row-reads
-use Rattle.listing.proofs.row.row.Reads as row-reads
-use Rattle.listing.proofs.rows.narrow.Reads as narrow-reads
 
 abbrev Inv-loop : tie.InvT-loop
 Inv-loop out₀ at list i₀ out i = (i ≤ length list) × (length out ≡ length out₀) × Put patternRow out₀ at list i out

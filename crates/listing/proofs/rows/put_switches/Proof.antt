@@ -2,22 +2,15 @@ use Prim.Native.Nat.{_+_}
 use mathlib.Core.Bool.{false}
 use Rattle.scope.specs.laws.Points.{length-bits}
 use Prim.Native.Nat.{_≤_, _-_}
-use mathlib.Core.Path.{_≡_, refl, sym, ap, _∙_}
+use mathlib.Core.Path.{_≡_, refl, sym, _∙_}
 use native.Mathlib.Omega.{arith}
-use lib.ListN.{length, getD}
+use lib.ListN.{length}
 use borrow.Author.Needs.{needs}
 use Rattle.scope.specs.Meaning.{bits}
 use Rattle.scope.specs.Program.{switchRow}
-use Rattle.listing.specs.Rows.{Put, put-none, put-next, rowBytes}
+use Rattle.listing.specs.Rows.{Put, put-none, put-next}
 use Rattle.listing.proofs.rows.put_switches.Statement.{statement}
 use Rattle.listing.proofs.rows.put_switches.Tie as tie
-use Rattle.listing.proofs.rows.put_switches.Reads as reads
-use Rattle.listing.proofs.rows.put_switches.Lts as lts
-use Rattle.circuit.proofs.point.digit.Reads as digit-reads
-use Rattle.listing.proofs.row.put_row.Reads as put-row-reads
-use Rattle.listing.proofs.row.row.Reads as row-reads
-use Rattle.listing.proofs.rows.flag.Reads as flag-reads
-use Rattle.listing.proofs.rows.wide.Reads as wide-reads
 
 abbrev Inv-loop : tie.InvT-loop
 Inv-loop out₀ at a plan i₀ out i = (i ≤ a) × (length out ≡ length out₀) × Put switchRow out₀ at (bits a (plan .0)) i out

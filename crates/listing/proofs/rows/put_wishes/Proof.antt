@@ -4,22 +4,15 @@ use Rattle.circuit.specs.Lent.{clauseOf}
 use Rattle.circuit.specs.laws.Columns.{all-at, length-rows, row-at}
 use Prim.Native.Nat.{_≤_, _-_}
 use mathlib.Core.List.{[]}
-use mathlib.Core.Path.{_≡_, refl, sym, ap, _∙_}
+use mathlib.Core.Path.{_≡_, refl, _∙_}
 use native.Mathlib.Omega.{arith}
 use lib.ListN.{length, getD}
 use borrow.Author.Needs.{needs}
 use Rattle.scope.specs.Program.{wishRow}
 use Rattle.circuit.specs.Lent.{wishesOf, wishSheet}
-use Rattle.listing.specs.Rows.{Put, put-none, put-next, rowBytes}
+use Rattle.listing.specs.Rows.{Put, put-none, put-next}
 use Rattle.listing.proofs.rows.put_wishes.Statement.{statement}
 use Rattle.listing.proofs.rows.put_wishes.Tie as tie
-use Rattle.listing.proofs.rows.put_wishes.Reads as reads
-use Rattle.listing.proofs.rows.put_wishes.Lts as lts
-use Rattle.circuit.proofs.wish.kept.Reads as kept-reads
-use Rattle.listing.proofs.row.put_row.Reads as put-row-reads
-use Rattle.listing.proofs.row.row.Reads as row-reads
-use Rattle.listing.proofs.rows.flag.Reads as flag-reads
-use Rattle.listing.proofs.rows.narrow.Reads as narrow-reads
 
 abbrev Inv-loop : tie.InvT-loop
 Inv-loop out₀ at first second third a plan i₀ out i = (i ≤ length first) × (length out ≡ length out₀) × Put (wishRow (wishSheet a []) (plan .0)) out₀ at (wishesOf first second third) i out

@@ -9,13 +9,6 @@ use Rattle.listing.specs.Listing.{planRowsOf, listing-wrote}
 use borrow.Author.Needs.{needs}
 use Rattle.listing.proofs.whole.put_listing.Statement.{statement}
 use Rattle.listing.proofs.whole.put_listing.Tie as tie
-use Rattle.listing.proofs.whole.put_listing.Reads as reads
-use Rattle.listing.proofs.whole.put_listing.Lts as lts
-use Rattle.listing.proofs.row.put_row.Reads as put-row-reads
-use Rattle.listing.proofs.row.row.Reads as row-reads
-use Rattle.listing.proofs.rows.narrow.Reads as narrow-reads
-use Rattle.listing.proofs.rows.put_patterns.Reads as put-patterns-reads
-use Rattle.listing.proofs.whole.put_plan.Reads as put-plan-reads
 
 row-requires : tie.Need-row-requires
 row-requires c κs = search needs

@@ -12,11 +12,6 @@ use Rattle.listing.specs.Rows.{wrote-none, wrote-each, wrote-more}
 use borrow.Author.Needs.{needs}
 use Rattle.listing.proofs.whole.put_plan.Statement.{statement}
 use Rattle.listing.proofs.whole.put_plan.Tie as tie
-use Rattle.listing.proofs.whole.put_plan.Reads as reads
-use Rattle.listing.proofs.whole.put_plan.Lts as lts
-use Rattle.listing.proofs.rows.put_switches.Reads as put-switches-reads
-use Rattle.listing.proofs.rows.put_wishes.Reads as put-wishes-reads
-use Rattle.listing.proofs.rows.wide.Reads as wide-reads
 
 put-switches-requires : tie.Need-put-switches-requires
 put-switches-requires c κs = search needs

@@ -1,6 +1,5 @@
 use Rattle.search.specs.Table.{Ran}
-use native.Mathlib.Omega.{arith}
-use mathlib.Core.Path.{_≡_, refl, sym, ap, subst, _∙_}
+use mathlib.Core.Path.{refl, sym, ap, subst, _∙_}
 use denote.Ref.{now}
 use lib.Seq.{length-take-le}
 use Rattle.scope.specs.Sheet.{fieldCount}
@@ -12,12 +11,6 @@ use borrow.Author.Needs.{needs}
 use Rattle.planner.proofs.answer.answer.Statement.{statement}
 use Rattle.planner.proofs.answer.answer.Tie as tie
 use Rattle.planner.proofs.answer.answer.Reads as reads
-use Rattle.planner.proofs.answer.answer.Lts as lts
-use Rattle.planner.proofs.answer.run_outcome.Reads as run-outcome-reads
-use Rattle.planner.proofs.outcome.refused.Reads as refused-reads
-use Rattle.planner.proofs.rating.wide.Reads as wide-reads
-use Rattle.search.proofs.sheets.full_run.Reads as full-run-reads
-use Rattle.sheet.proofs.read.Reads as read-reads
 
 read-requires : tie.Need-read-requires
 read-requires c κs = search needs

@@ -8,8 +8,6 @@ use Rattle.scope.specs.Jobs.{firstHigh}
 use Rattle.planner.specs.laws.Jobs.{high-start, high-end, high-here, high-next, high-none, high-some}
 use Rattle.planner.proofs.answer.first_high.Statement.{statement}
 use Rattle.planner.proofs.answer.first_high.Tie as tie
-use Rattle.planner.proofs.answer.first_high.Reads as reads
-use Rattle.planner.proofs.answer.first_high.Lts as lts
 
 abbrev Inv-loop : tie.InvT-loop
 Inv-loop list bound i₀ i = (i ≤ length list) × (firstHigh bound (1 + i) (drop i list) ≡ firstHigh bound 1 list)

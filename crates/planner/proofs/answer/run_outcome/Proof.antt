@@ -1,11 +1,7 @@
-use mathlib.Core.Path.{refl, sym, _∙_}
+use mathlib.Core.Path.{sym, _∙_}
 use borrow.Author.Needs.{needs}
 use Rattle.planner.proofs.answer.run_outcome.Statement.{statement}
 use Rattle.planner.proofs.answer.run_outcome.Tie as tie
-use Rattle.planner.proofs.answer.run_outcome.Reads as reads
-use Rattle.planner.proofs.answer.run_outcome.Lts as lts
-use Rattle.planner.proofs.outcome.best_outcome.Reads as best-outcome-reads
-use Rattle.planner.proofs.outcome.refused.Reads as refused-reads
 
 refused-requires : tie.Need-refused-requires
 refused-requires c κs = search needs

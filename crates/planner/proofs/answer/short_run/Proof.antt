@@ -15,14 +15,6 @@ use borrow.Author.Needs.{needs}
 use Rattle.planner.proofs.answer.short_run.Statement.{statement}
 use Rattle.planner.proofs.answer.short_run.Tie as tie
 use Rattle.planner.proofs.answer.short_run.Reads as reads
-use Rattle.planner.proofs.answer.short_run.Lts as lts
-use Rattle.circuit.proofs.rule.power.Reads as power-reads
-use Rattle.planner.proofs.answer.first_high.Reads as first-high-reads
-use Rattle.planner.proofs.outcome.best_outcome.Reads as best-outcome-reads
-use Rattle.planner.proofs.outcome.refused.Reads as refused-reads
-use Rattle.planner.proofs.rating.wide.Reads as wide-reads
-use Rattle.search.proofs.sheets.short_run.Reads as short-run-reads
-use Rattle.sheet.proofs.read.Reads as read-reads
 
 read-requires : tie.Need-read-requires
 read-requires c κs = search needs

@@ -4,10 +4,6 @@ use Rattle.planner.specs.Figures.{ratingFigures}
 use borrow.Author.Needs.{needs}
 use Rattle.planner.proofs.calls.comzsered_rating.Statement.{statement}
 use Rattle.planner.proofs.calls.comzsered_rating.Tie as tie
-use Rattle.planner.proofs.calls.comzsered_rating.Reads as reads
-use Rattle.planner.proofs.calls.comzsered_rating.Lts as lts
-use Rattle.planner.proofs.calls.flag.Reads as flag-reads
-use Rattle.planner.proofs.rating.rate.Reads as rate-reads
 
 rate-requires : tie.Need-rate-requires
 rate-requires c κs = search needs

@@ -1,9 +1,6 @@
 use borrow.Author.Needs.{needs}
 use Rattle.planner.proofs.outcome.best_outcome.Statement.{statement}
 use Rattle.planner.proofs.outcome.best_outcome.Tie as tie
-use Rattle.planner.proofs.outcome.best_outcome.Reads as reads
-use Rattle.planner.proofs.outcome.best_outcome.Lts as lts
-use Rattle.planner.proofs.outcome.refused.Reads as refused-reads
 
 enum-told : tie.Need-enum-told
 enum-told c = search needs

@@ -7,10 +7,6 @@ use Rattle.planner.specs.Claim.{kept, listed-within}
 use borrow.Author.Needs.{needs}
 use Rattle.planner.proofs.pair.run_pair.Statement.{statement}
 use Rattle.planner.proofs.pair.run_pair.Tie as tie
-use Rattle.planner.proofs.pair.run_pair.Reads as reads
-use Rattle.planner.proofs.pair.run_pair.Lts as lts
-use Rattle.planner.proofs.answer.answer.Reads as answer-reads
-use Rattle.planner.proofs.answer.short_run.Reads as short-run-reads
 
 answer-requires : tie.Need-answer-requires
 answer-requires c κs = search needs

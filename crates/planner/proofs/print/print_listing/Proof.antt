@@ -1,5 +1,5 @@
 use native.Mathlib.Omega.{arith}
-use mathlib.Core.Path.{_≡_, refl, sym, ap, _∙_}
+use mathlib.Core.Path.{_≡_, sym}
 use denote.Ref.{now}
 use lib.ListN.{length, take}
 use lib.Seq.{length-take-le}
@@ -11,13 +11,6 @@ use Rattle.planner.specs.laws.Listing.{too-short, wrote-listing, rows-ar
 use borrow.Author.Needs.{needs}
 use Rattle.planner.proofs.print.print_listing.Statement.{statement}
 use Rattle.planner.proofs.print.print_listing.Tie as tie
-use Rattle.planner.proofs.print.print_listing.Reads as reads
-use Rattle.planner.proofs.print.print_listing.Lts as lts
-use Rattle.listing.proofs.whole.put_listing.Reads as put-listing-reads
-use Rattle.planner.proofs.answer.answer.Reads as answer-reads
-use Rattle.planner.proofs.print.narrow.Reads as narrow-reads
-use Rattle.planner.proofs.rating.wide.Reads as wide-reads
-use Rattle.sheet.proofs.read.Reads as read-reads
 
 returns : tie.Need-returns
 returns c = let a = c .before .before .before .args in let (e, f) = too-short (now (a .s)) (now (a .out)) (c .if1 .taken) in (sym e, sym f)

@@ -13,14 +13,6 @@ use borrow.Author.Needs.{needs}
 use Rattle.planner.proofs.rating.rate.Statement.{statement}
 use Rattle.planner.proofs.rating.rate.Tie as tie
 use Rattle.planner.proofs.rating.rate.Reads as reads
-use Rattle.planner.proofs.rating.rate.Lts as lts
-use Rattle.circuit.proofs.rule.first_missed.Reads as first-missed-reads
-use Rattle.circuit.proofs.rule.power.Reads as power-reads
-use Rattle.circuit.proofs.wish.cost.Reads as cost-reads
-use Rattle.planner.proofs.rating.rated.Reads as rated-reads
-use Rattle.planner.proofs.rating.unrated.Reads as unrated-reads
-use Rattle.planner.proofs.rating.wide.Reads as wide-reads
-use Rattle.sheet.proofs.read.Reads as read-reads
 
 read-requires : tie.Need-read-requires
 read-requires c κs = search needs

@@ -1,8 +1,6 @@
 use borrow.Author.Needs.{needs}
 use Rattle.planner.proofs.rating.rated.Statement.{statement}
 use Rattle.planner.proofs.rating.rated.Tie as tie
-use Rattle.planner.proofs.rating.rated.Reads as reads
-use Rattle.planner.proofs.rating.rated.Lts as lts
 
 enum-told : tie.Need-enum-told
 enum-told c = search needs

@@ -6,10 +6,6 @@ use Rattle.search.specs.Table.{tableOf, Priced}
 use Rattle.search.specs.laws.Steps.{Picks, picks-none, picks-next, picks-best}
 use Rattle.search.proofs.best.best_plan.Statement.{statement}
 use Rattle.search.proofs.best.best_plan.Tie as tie
-use Rattle.search.proofs.best.best_plan.Reads as reads
-use Rattle.search.proofs.best.best_plan.Lts as lts
-use Rattle.circuit.proofs.rule.power.Reads as power-reads
-use Rattle.search.proofs.best.with_plan.Reads as with-plan-reads
 
 abbrev Inv-loop : tie.InvT-loop
 Inv-loop kind left right rules first second third a f list end best₀ i₀ best i = (i ≤ end) × Picks (tableOf a f kind left right rules first second third) list i best × Priced (tableOf a f kind left right rules first second third) best

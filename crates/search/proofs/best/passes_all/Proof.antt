@@ -1,7 +1,7 @@
 use borrow.Author.Tests.{not-true, not-false}
 use native.Mathlib.Omega.{arith}
 use Prim.Native.Nat.{ℕ, _≤_, _<_, _-_}
-use mathlib.Core.Bool.{true, false}
+use mathlib.Core.Bool.{true}
 use mathlib.Core.Path.{_≡_, sym, _∙_}
 use lib.ListN.{length, getD}
 use borrow.Author.Needs.{needs}
@@ -13,9 +13,6 @@ use Rattle.search.specs.Table.{table}
 use Rattle.search.specs.laws.Steps.{passes-not}
 use Rattle.search.proofs.best.passes_all.Statement.{statement}
 use Rattle.search.proofs.best.passes_all.Tie as tie
-use Rattle.search.proofs.best.passes_all.Reads as reads
-use Rattle.search.proofs.best.passes_all.Lts as lts
-use Rattle.circuit.proofs.rule.passes.Reads as passes-reads
 
 abbrev Inv-loop : tie.InvT-loop
 Inv-loop kind left right rules a f list plan i₀ i = (i ≤ length list) × ((k : ℕ) → k < i → passes (circuit a f kind left right rules) (plan .0) (getD list k 0) ≡ true)

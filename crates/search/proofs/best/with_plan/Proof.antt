@@ -7,11 +7,6 @@ use Rattle.search.specs.laws.Steps.{takes-over, costs-more, fails}
 use borrow.Author.Needs.{needs}
 use Rattle.search.proofs.best.with_plan.Statement.{statement}
 use Rattle.search.proofs.best.with_plan.Tie as tie
-use Rattle.search.proofs.best.with_plan.Reads as reads
-use Rattle.search.proofs.best.with_plan.Lts as lts
-use Rattle.circuit.proofs.wish.broken.Reads as broken-reads
-use Rattle.search.proofs.best.improves.Reads as improves-reads
-use Rattle.search.proofs.best.passes_all.Reads as passes-all-reads
 
 broken-requires : tie.Need-broken-requires
 broken-requires c κs = search needs

@@ -3,9 +3,6 @@ use Rattle.search.specs.laws.Steps.{no-candidate, candidate-sound, candi
 use borrow.Author.Needs.{needs}
 use Rattle.search.proofs.run.judge.Statement.{statement}
 use Rattle.search.proofs.run.judge.Tie as tie
-use Rattle.search.proofs.run.judge.Reads as reads
-use Rattle.search.proofs.run.judge.Lts as lts
-use Rattle.circuit.proofs.rule.first_missed.Reads as first-missed-reads
 
 enum-told : tie.Need-enum-told
 enum-told c = search needs

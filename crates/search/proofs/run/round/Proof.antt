@@ -2,10 +2,6 @@ use Rattle.circuit.specs.Lent.{wishesOf}
 use borrow.Author.Needs.{needs}
 use Rattle.search.proofs.run.round.Statement.{statement}
 use Rattle.search.proofs.run.round.Tie as tie
-use Rattle.search.proofs.run.round.Reads as reads
-use Rattle.search.proofs.run.round.Lts as lts
-use Rattle.search.proofs.best.best_plan.Reads as best-plan-reads
-use Rattle.search.proofs.run.judge.Reads as judge-reads
 
 best-plan-requires : tie.Need-best-plan-requires
 best-plan-requires c κs = search needs

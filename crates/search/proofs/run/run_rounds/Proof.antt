@@ -8,9 +8,6 @@ use Rattle.search.specs.Table.{tableOf}
 use Rattle.search.specs.laws.Steps.{Stepped, Kept, kept-none, kept-more, Onward, on-start, on-more, on-done, on-full}
 use Rattle.search.proofs.run.run_rounds.Statement.{statement}
 use Rattle.search.proofs.run.run_rounds.Tie as tie
-use Rattle.search.proofs.run.run_rounds.Reads as reads
-use Rattle.search.proofs.run.run_rounds.Lts as lts
-use Rattle.search.proofs.run.round.Reads as round-reads
 
 abbrev Inv-loop : tie.InvT-loop
 Inv-loop kind left right rules first second third a f list₀ n₀ list n = Kept list₀ list n × Onward (tableOf a f kind left right rules first second third) list₀ list n

@@ -6,10 +6,6 @@ use Rattle.search.specs.laws.Steps.{distinct-lent}
 use borrow.Author.Needs.{needs}
 use Rattle.search.proofs.sheets.full_run.Statement.{statement}
 use Rattle.search.proofs.sheets.full_run.Tie as tie
-use Rattle.search.proofs.sheets.full_run.Reads as reads
-use Rattle.search.proofs.sheets.full_run.Lts as lts
-use Rattle.circuit.proofs.wish.distinct.Reads as distinct-reads
-use Rattle.search.proofs.run.run_rounds.Reads as run-rounds-reads
 
 distinct-requires : tie.Need-distinct-requires
 distinct-requires c κs = search needs

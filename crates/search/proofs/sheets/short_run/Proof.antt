@@ -6,10 +6,6 @@ use Rattle.search.specs.laws.Steps.{distinct-lent}
 use borrow.Author.Needs.{needs}
 use Rattle.search.proofs.sheets.short_run.Statement.{statement}
 use Rattle.search.proofs.sheets.short_run.Tie as tie
-use Rattle.search.proofs.sheets.short_run.Reads as reads
-use Rattle.search.proofs.sheets.short_run.Lts as lts
-use Rattle.circuit.proofs.wish.distinct.Reads as distinct-reads
-use Rattle.search.proofs.best.best_plan.Reads as best-plan-reads
 
 distinct-requires : tie.Need-distinct-requires
 distinct-requires c κs = search needs
