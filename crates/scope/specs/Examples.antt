@@ -12,10 +12,10 @@ use Rattle.scope.specs.Reading.{fieldOf, fieldsOf, letterOf, lineOf, zer
 use Rattle.scope.specs.Meaning.{bits, truths, truth, passes, keeps, sameSet, distinct, broken, switchOn, kept, cost}
 use Rattle.scope.specs.Pick.{pick}
 use Rattle.scope.specs.Rule.{best, missed, short, next, rule}
-use Rattle.scope.specs.Jobs.{Answer, answered, refusal, found, answer, shortRun, rated, unrated, rating}
+use Rattle.scope.specs.Jobs.{Answer, Result, Rating, answered, refusal, found, answer, shortRun, rated, unrated, rating}
 use Rattle.scope.specs.Program.{each, rowsBytes, outputRows, output}
 
--- the sheet of source document 002, Example 1
+-- the sample sheet of docs/FORMAT.md
 abbrev pub sample : List String
 sample = "H    2    2    0" ∷ "O    1    2    0" ∷ "O    3    4    0" ∷ "O    5    6    0" ∷ "R    7    0    0" ∷ "W   -1    0    0" ∷ "W   -2    0    0" ∷ "Z    7    0    0" ∷ []
 
@@ -60,50 +60,58 @@ pub printing : (field (plus 0) ≡ bytes "    0") × (field (plus 99999) ≡ byt
 unfolding field decimal
 printing = (refl, refl, refl, refl)
 
--- ---- the jobs: E1 to E10, with room for four words that hold 7
+-- ---- the jobs: one table, E1 to E10 and E14
 
+-- a job, what it is lent, and what it returns
+pub data Row : Type 0 where
+  answers : List String → List ℕ → Answer → Row
+  runs : List String → List ℕ → Result → Row
+  rates : List String → ℕ → Rating → Row
+
+abbrev pub Holds : Row → Type 0
+Holds (answers s lent a) = answer (lines s) lent ≡ a
+Holds (runs s lent r) = shortRun (lines s) lent ≡ r
+Holds (rates s p r) = rating (lines s) p ≡ r
+
+-- room for four words, which hold 7
 abbrev room : List ℕ
 room = replicate 4 7
 
 abbrev e4 : List String
 e4 = "H    0    1    0" ∷ "R    1    0    0" ∷ "Z    2    0    0" ∷ []
 
-abbrev Full : Type 0
-Full = List String × List ℕ × Answer
-
-abbrev fullRuns : List Full
-fullRuns =
+abbrev pub table : List Row
+table =
     -- E1: the empty sheet
-    ([], room, answered (refusal 1 0 0) room)
+    answers [] room (answered (refusal 1 0 0) room)
     -- E2
-    ∷ ("H    0    0    0" ∷ "Z    1    0    0" ∷ [], room, answered (found 0 0 0) room)
+    ∷ answers ("H    0    0    0" ∷ "Z    1    0    0" ∷ []) room (answered (found 0 0 0) room)
     -- E3
-    ∷ (sample, room, answered (found 1 1 1) (0 ∷ 7 ∷ 7 ∷ 7 ∷ []))
+    ∷ answers sample room (answered (found 1 1 1) (0 ∷ 7 ∷ 7 ∷ 7 ∷ []))
     -- E4, and E5 with no room
-    ∷ (e4, room, answered (refusal 8 0 1) (0 ∷ 7 ∷ 7 ∷ 7 ∷ []))
-    ∷ (e4, [], answered (refusal 9 0 0) [])
+    ∷ answers e4 room (answered (refusal 8 0 1) (0 ∷ 7 ∷ 7 ∷ 7 ∷ []))
+    ∷ answers e4 [] (answered (refusal 9 0 0) [])
     -- E6
-    ∷ ("H    1    1    0" ∷ "R    1    0    0" ∷ "W   -1    0    0" ∷ "Z    3    0    0" ∷ [], room, answered (found 1 1 1) (0 ∷ 7 ∷ 7 ∷ 7 ∷ []))
+    ∷ answers ("H    1    1    0" ∷ "R    1    0    0" ∷ "W   -1    0    0" ∷ "Z    3    0    0" ∷ []) room (answered (found 1 1 1) (0 ∷ 7 ∷ 7 ∷ 7 ∷ []))
     -- E7: the list is as long as there are plans, and patterns
-    ∷ ("H    1    1    0" ∷ "N    1    0    0" ∷ "N    2    0    0" ∷ "A    1    2    0" ∷ "A    3    4    0" ∷ "O    5    6    0" ∷ "R    7    0    0" ∷ "Z    7    0    0" ∷ [], room, answered (refusal 8 0 2) (1 ∷ 0 ∷ 7 ∷ 7 ∷ []))
+    ∷ answers ("H    1    1    0" ∷ "N    1    0    0" ∷ "N    2    0    0" ∷ "A    1    2    0" ∷ "A    3    4    0" ∷ "O    5    6    0" ∷ "R    7    0    0" ∷ "Z    7    0    0" ∷ []) room (answered (refusal 8 0 2) (1 ∷ 0 ∷ 7 ∷ 7 ∷ []))
     -- E8: a wish written twice counts once
-    ∷ ("H    1    0    0" ∷ "R    1    0    0" ∷ "W   -1    0    0" ∷ "W   -1    0    0" ∷ "Z    4    0    0" ∷ [], room, answered (found 1 1 1) (0 ∷ 7 ∷ 7 ∷ 7 ∷ []))
+    ∷ answers ("H    1    0    0" ∷ "R    1    0    0" ∷ "W   -1    0    0" ∷ "W   -1    0    0" ∷ "Z    4    0    0" ∷ []) room (answered (found 1 1 1) (0 ∷ 7 ∷ 7 ∷ 7 ∷ []))
     -- E9: a wish with no literal is always broken
-    ∷ ("H    0    0    0" ∷ "W    0    0    0" ∷ "Z    2    0    0" ∷ [], room, answered (found 0 1 0) room)
+    ∷ answers ("H    0    0    0" ∷ "W    0    0    0" ∷ "Z    2    0    0" ∷ []) room (answered (found 0 1 0) room)
+    -- E10: short runs over no pattern, and over pattern 0
+    ∷ runs sample [] (found 0 0 0)
+    ∷ runs sample (0 ∷ []) (found 1 1 0)
+    -- E14: a pattern and a plan that there is not, and ratings
+    ∷ runs sample (3 ∷ 4 ∷ []) (refusal 11 2 0)
+    ∷ rates sample 3 (rated 2 none)
+    ∷ rates sample 0 (rated 0 (some 0))
+    ∷ rates sample 4 (unrated 10 0)
     ∷ []
 
-pub full-runs : All (λ e. answer (lines (e .0)) (e .1) ≡ e .2) fullRuns
-unfolding answer read readFrom testsAt lineAt lineOf letterOf fieldsOf fieldOf field decimal rows zeros make literals clause rule next best missed short pick passes truth truths bits cost broken distinct sameSet keeps switchOn
-full-runs = (refl, (refl, (refl, (refl, (refl, (refl, (refl, (refl, (refl, tt)))))))))
-
--- E10: the sample's short run over no pattern, and over pattern 0; E14: 11 and the ratings
-pub short-runs : (shortRun (lines sample) [] ≡ found 0 0 0) × (shortRun (lines sample) (0 ∷ []) ≡ found 1 1 0) × (shortRun (lines sample) (3 ∷ 4 ∷ []) ≡ refusal 11 2 0)
-unfolding shortRun read readFrom testsAt lineAt lineOf letterOf fieldsOf fieldOf field decimal rows zeros make literals clause best short pick passes truth truths bits cost broken distinct sameSet keeps switchOn
-short-runs = (refl, refl, refl)
-
-pub ratings : (rating (lines sample) 3 ≡ rated 2 none) × (rating (lines sample) 0 ≡ rated 0 (some 0)) × (rating (lines sample) 4 ≡ unrated 10 0)
-unfolding rating read readFrom testsAt lineAt lineOf letterOf fieldsOf fieldOf field decimal rows zeros make literals clause missed pick passes truth truths bits cost broken distinct sameSet keeps switchOn
-ratings = (refl, refl, refl)
+pub table-holds : All Holds table
+unfolding answer shortRun rating read readFrom testsAt lineAt lineOf letterOf fieldsOf fieldOf field decimal rows zeros make literals clause rule next best missed short pick passes truth truths bits cost broken distinct sameSet keeps switchOn
+table-holds = (refl, (refl, (refl, (refl, (refl, (refl, (refl, (refl, (refl, (refl, (refl, (refl, (refl, (refl, (refl, tt)))))))))))))))
 
 -- ---- the program, on the sample
 pub printed : output (lines sample) ≡ lines ("A    0    0    1" ∷ "S    1    0    0" ∷ "S    2    1    0" ∷ "W    1    1    0" ∷ "W    2    0    0" ∷ "F    1    0    0" ∷ "Z    6    0    0" ∷ [])
