@@ -6,11 +6,11 @@ use mathlib.Core.List.{List}
 use mathlib.Core.Logic.{_≢_}
 use mathlib.Core.Path.{_≡_}
 use lib.ListN.{length, take}
-use Rattle.scope.specs.Sheet.{Number, Sheet, Letter, H, N, A, O, R, W, Z, Line, mostSwitches, mostFaults, mostGates, mostRules, mostWishes, mostLiterals}
+use Rattle.scope.specs.Sheet.{Number, Clause, Gate, Sheet, Letter, H, N, A, O, R, W, Z, Line, mostSwitches, mostFaults, mostGates, mostRules, mostWishes, mostLiterals}
 use Rattle.scope.specs.Reading.{literals, Row, lineSize, lineCount, lengthOk}
 use Rattle.scope.specs.Causes.{Met, First}
-use Rattle.sheet.specs.declared.causes.Counts.{Counts}
-use Rattle.sheet.specs.declared.tables.Tables.{Tables}
+use Rattle.sheet.specs.Tables.{padded, kindOf, leftOf, rightOf, pointOf, literalAt}
+use Rattle.sheet.specs.declared.tables.Counts.{Counts}
 
 -- the counts of a sheet
 pub record Counted (t : Sheet) (c : Counts) : Type 0 where
@@ -19,6 +19,24 @@ pub record Counted (t : Sheet) (c : Counts) : Type 0 where
   pub gates : c .gates ≡ length (t .gates)
   pub rules : c .rules ≡ length (t .rules)
   pub wishes : c .wishes ≡ length (t .wishes)
+
+-- columns that hold these gates, or these wishes, and then zeros
+pub record GateColumns (gs : List Gate) (kind left right : List ℕ) : Type 0 where
+  pub kinds : kind ≡ padded mostGates kindOf gs
+  pub lefts : left ≡ padded mostGates leftOf gs
+  pub rights : right ≡ padded mostGates rightOf gs
+
+pub record WishColumns (ws : List Clause) (first second third : List ℕ) : Type 0 where
+  pub firsts : first ≡ padded mostWishes (literalAt 0) ws
+  pub seconds : second ≡ padded mostWishes (literalAt 1) ws
+  pub thirds : third ≡ padded mostWishes (literalAt 2) ws
+
+-- the counts and columns of a sheet
+pub record Held (t : Sheet) (c : Counts) (kind left right rule first second third : List ℕ) : Type 0 where
+  pub counts : Counted t c
+  pub gates : GateColumns (t .gates) kind left right
+  pub rules : rule ≡ padded mostRules pointOf (t .rules)
+  pub wishes : WishColumns (t .wishes) first second third
 
 -- few enough that the points are counted without a wrap
 pub record Few (c : Counts) : Type 0 where
@@ -34,19 +52,19 @@ pub record Fault (rs : List Row) (r : ℕ) : Type 0 where
   pub met : r ≡ 0 → Met rs
   pub first : r ≢ 0 → First r rs
 
--- what the tables must have room for to take a line
-abbrev pub RoomFor : Tables → Letter → List Number → Type 0
-RoomFor u H xs = Unit {0}
-RoomFor u N xs = u .gates < mostGates
-RoomFor u A xs = u .gates < mostGates
-RoomFor u O xs = u .gates < mostGates
-RoomFor u R xs = u .rules < mostRules
-RoomFor u W xs = (u .wishes < mostWishes) × (u .switches ≤ mostSwitches) × (literals (u .switches) (take mostLiterals xs) ≡ true)
-RoomFor u Z xs = Unit {0}
+-- what the columns must have room for to take a line; a head finds them empty
+abbrev pub RoomFor : Counts → Letter → List Number → Type 0
+RoomFor c H xs = (c .gates ≡ 0) × (c .rules ≡ 0) × (c .wishes ≡ 0)
+RoomFor c N xs = c .gates < mostGates
+RoomFor c A xs = c .gates < mostGates
+RoomFor c O xs = c .gates < mostGates
+RoomFor c R xs = c .rules < mostRules
+RoomFor c W xs = (c .wishes < mostWishes) × (c .switches ≤ mostSwitches) × (literals (c .switches) (take mostLiterals xs) ≡ true)
+RoomFor c Z xs = Unit {0}
 
-abbrev pub Room : Tables → Option Line → Type 0
-Room u none = Unit {0}
-Room u (some l) = RoomFor u (l .letter) (l .fields)
+abbrev pub Room : Counts → Option Line → Type 0
+Room c none = Unit {0}
+Room c (some l) = RoomFor c (l .letter) (l .fields)
 
 -- s has so many lines of so many bytes, each of n fields
 pub record Sized (n : ℕ) (s : List ℕ) (bytes lines : ℕ) : Type 0 where

@@ -17,6 +17,7 @@ use crate::line::Line;
 use crate::line::MOST_FIELDS;
 use crate::line::nth;
 use crate::tables;
+use crate::tables::Counts;
 
 const MOST_SWITCHES: u32 = 20;
 
@@ -40,14 +41,6 @@ const LIMIT: u32 = 5;
 const FIELDS: u32 = 6;
 // wrong number of lines
 const COUNT: u32 = 7;
-
-pub struct Counts {
-    pub switches: u32,
-    pub faults: u32,
-    pub gates: u32,
-    pub rules: u32,
-    pub wishes: u32,
-}
 
 // A test before others: `number` unless it is met, and then what they give.
 fn row(number: u32, met: bool, later: u32) -> u32

@@ -1,18 +1,18 @@
 // Reading a sheet: its length is tested, then the lines from the first, each of which is taken into the tables or turns the sheet down.
+ghost use mathlib.Core.List.{[], _∷_, _++_};
 ghost use mathlib.Core.Path.{_≡_};
 ghost use mathlib.Core.Bool.{true};
 ghost use mathlib.Core.Option.{some};
 ghost use Prim.Native.Nat.{_≤_, _<_};
 ghost use Rattle.scope.specs.Sheet.{Sheet, mostSwitches, mostWishes, mostLiterals, fieldCount};
 ghost use Rattle.scope.specs.Reading.{literals, clause, joined, addWish, add, read};
-ghost use Rattle.sheet.specs.Tables.{literalCode, filled, outcome};
+ghost use Rattle.sheet.specs.Tables.{literalCode, outcome};
 ghost use Rattle.sheet.specs.Columns.{numberFrom};
 ghost use Rattle.sheet.specs.Lines.{letterFrom, numbersFrom};
-ghost use Rattle.sheet.specs.Steps.{Room, Sized};
+ghost use Rattle.sheet.specs.Steps.{Counted, WishColumns, Held, Room, Sized};
 use crate::allowed::MOST_LITERALS;
 use crate::allowed::both;
 use crate::causes;
-use crate::causes::Counts;
 use crate::field::FIELD_SIZE;
 use crate::field::Number;
 use crate::line;
@@ -20,12 +20,16 @@ use crate::line::Letter;
 use crate::line::MOST_FIELDS;
 use crate::line::nth;
 use crate::tables;
+use crate::tables::Counts;
+use crate::tables::MOST_GATES;
+use crate::tables::MOST_RULES;
+use crate::tables::MOST_WISHES;
 use crate::tables::Tables;
 
 // the fields of a line
 const FIELD_COUNT: usize = 3;
 // H, Z and as many others as there may be
-const MOST_LINES: usize = tables::MOST_GATES + tables::MOST_RULES + tables::MOST_WISHES + 2;
+const MOST_LINES: usize = MOST_GATES + MOST_RULES + MOST_WISHES + 2;
 // the refusal of a sheet's length
 const LENGTH: u32 = 1;
 
@@ -39,62 +43,119 @@ fn literal_code(x: Number) -> u32
     x.size * 2
 }
 
-// The tables with one more wish, of the first fields.
-fn with_literals(u: Tables, xs: [Number; MOST_FIELDS]) -> Tables
-    requires { ⌜ (u .wishes < mostWishes) × (u .switches ≤ mostSwitches) × (literals (u .switches) (numbersFrom mostLiterals xs) ≡ true) ⌝ }
-    ensures { λ r. ⌜ ((t : Sheet) → u ≡ filled t → r ≡ filled (addWish t (clause (numbersFrom mostLiterals xs)))) ⌝ }
+// One more wish, of the first fields.
+fn take_wish(
+    first: &mut [u32; MOST_WISHES],
+    second: &mut [u32; MOST_WISHES],
+    third: &mut [u32; MOST_WISHES],
+    c: Counts,
+    xs: [Number; MOST_FIELDS],
+) -> Counts
+    requires { ⌜ (c .wishes < mostWishes) × (c .switches ≤ mostSwitches) × (literals (c .switches) (numbersFrom mostLiterals xs) ≡ true) ⌝ }
+    ensures { λ r. ⌜ ((t : Sheet) → Counted t c → WishColumns (t .wishes) (now (first .entry)) (now (second .entry)) (now (third .entry)) → Counted (addWish t (clause (numbersFrom mostLiterals xs))) r × WishColumns (t .wishes ++ clause (numbersFrom mostLiterals xs) ∷ []) (now (first .exit)) (now (second .exit)) (now (third .exit))) ⌝ }
 {
-    let first = literal_code(nth(xs, 0, MOST_LITERALS));
-    let second = literal_code(nth(xs, 1, MOST_LITERALS));
-    let third = literal_code(nth(xs, 2, MOST_LITERALS));
-    tables::with_wish(u, first, second, third)
+    let x = literal_code(nth(xs, 0, MOST_LITERALS));
+    let y = literal_code(nth(xs, 1, MOST_LITERALS));
+    let z = literal_code(nth(xs, 2, MOST_LITERALS));
+    tables::put_wish(first, second, third, c, x, y, z)
 }
 
-// The tables with one more line, for which there is room.
-fn with_line(u: Tables, letter: Letter, xs: [Number; MOST_FIELDS], n: usize) -> Tables
-    requires { ⌜ Room u (joined (letterFrom letter) (some (numbersFrom n xs))) × (3 ≤ n) × (n ≤ 4) ⌝ }
-    ensures { λ r. ⌜ ((t : Sheet) → u ≡ filled t → r ≡ filled (add t (joined (letterFrom letter) (some (numbersFrom n xs))))) ⌝ }
+// One more line, for which there is room, into the columns. Returns the counts with it.
+fn take_line(
+    kind: &mut [u8; MOST_GATES],
+    left: &mut [u32; MOST_GATES],
+    right: &mut [u32; MOST_GATES],
+    rule: &mut [u32; MOST_RULES],
+    first: &mut [u32; MOST_WISHES],
+    second: &mut [u32; MOST_WISHES],
+    third: &mut [u32; MOST_WISHES],
+    c: Counts,
+    letter: Letter,
+    xs: [Number; MOST_FIELDS],
+    n: usize,
+) -> Counts
+    requires { ⌜ Room c (joined (letterFrom letter) (some (numbersFrom n xs))) × (3 ≤ n) × (n ≤ 4) ⌝ }
+    ensures { λ r. ⌜ ((t : Sheet) → Held t c (now (kind .entry)) (now (left .entry)) (now (right .entry)) (now (rule .entry)) (now (first .entry)) (now (second .entry)) (now (third .entry)) → Held (add t (joined (letterFrom letter) (some (numbersFrom n xs)))) r (now (kind .exit)) (now (left .exit)) (now (right .exit)) (now (rule .exit)) (now (first .exit)) (now (second .exit)) (now (third .exit))) ⌝ }
 {
     let x = nth(xs, 0, n);
     let y = nth(xs, 1, n);
     match letter {
-        Letter::Head => tables::start(x.size, y.size),
-        Letter::Not => tables::with_gate(u, line::NOT, x.size, 0),
-        Letter::And => tables::with_gate(u, line::AND, x.size, y.size),
-        Letter::Or => tables::with_gate(u, line::OR, x.size, y.size),
-        Letter::Rule => tables::with_rule(u, x.size),
-        Letter::Wish => with_literals(u, xs),
-        Letter::End => u,
-        Letter::Unknown => u,
+        Letter::Head => Counts {
+            switches: x.size,
+            faults: y.size,
+            gates: 0,
+            rules: 0,
+            wishes: 0,
+        },
+        Letter::Not => tables::put_gate(kind, left, right, c, line::NOT, x.size, 0),
+        Letter::And => tables::put_gate(kind, left, right, c, line::AND, x.size, y.size),
+        Letter::Or => tables::put_gate(kind, left, right, c, line::OR, x.size, y.size),
+        Letter::Rule => tables::put_rule(rule, c, x.size),
+        Letter::Wish => take_wish(first, second, third, c, xs),
+        Letter::End => c,
+        Letter::Unknown => c,
     }
 }
 
-// The lines of a sheet whose length is right.
+// The lines of a sheet whose length is right. The columns stand here and are lent, so that no line copies them.
 fn read_lines(s: &[u8], n: usize, size: usize, count: usize) -> Tables
     requires { ⌜ Sized n (now s) size count ⌝ }
     ensures { λ r. ⌜ r ≡ outcome (read n (now (s .entry))) ⌝ }
 {
-    let mut u = tables::start(0, 0);
+    let mut kind = [0u8; MOST_GATES];
+    let mut left = [0u32; MOST_GATES];
+    let mut right = [0u32; MOST_GATES];
+    let mut rule = [0u32; MOST_RULES];
+    let mut first = [0u32; MOST_WISHES];
+    let mut second = [0u32; MOST_WISHES];
+    let mut third = [0u32; MOST_WISHES];
+    let mut c = Counts {
+        switches: 0,
+        faults: 0,
+        gates: 0,
+        rules: 0,
+        wishes: 0,
+    };
     let mut k = 0;
     while k < count {
         let l = line::line_at(s, k * size, n);
-        let c = Counts {
-            switches: u.switches,
-            faults: u.faults,
-            gates: u.gates,
-            rules: u.rules,
-            wishes: u.wishes,
-        };
         let fault = causes::line_fault(c, l, k, k + 1 == count, n);
         if fault != 0 {
             return tables::refused(fault, k + 1);
         }
         let letter = l.letter;
         let xs = l.numbers;
-        u = with_line(u, letter, xs, n);
+        c = take_line(
+            &mut kind,
+            &mut left,
+            &mut right,
+            &mut rule,
+            &mut first,
+            &mut second,
+            &mut third,
+            c,
+            letter,
+            xs,
+            n,
+        );
         k += 1;
     }
-    u
+    Tables {
+        number: 0,
+        place: 0,
+        switches: c.switches,
+        faults: c.faults,
+        gates: c.gates,
+        rules: c.rules,
+        wishes: c.wishes,
+        kind,
+        left,
+        right,
+        rule,
+        first,
+        second,
+        third,
+    }
 }
 
 // A sheet whose lines have n fields.

@@ -1,9 +1,11 @@
-// The tables of a sheet: a struct of flat arrays, which goes in by value and comes back with one more entry.
+// The tables of a sheet: what `read` returns, and the columns that its lines are put into one by one.
+ghost use mathlib.Core.List.{[], _∷_, _++_};
 ghost use mathlib.Core.Path.{_≡_};
 ghost use Prim.Native.Nat.{_<_};
 ghost use Rattle.scope.specs.Sheet.{Sheet, Gate, Clause, mostGates, mostRules, mostWishes};
-ghost use Rattle.scope.specs.Reading.{started, addGate, addRule, addWish};
-ghost use Rattle.sheet.specs.Tables.{kindOf, leftOf, rightOf, literalAt, tables, filled, refusal};
+ghost use Rattle.scope.specs.Reading.{addGate, addRule, addWish};
+ghost use Rattle.sheet.specs.Tables.{padded, kindOf, leftOf, rightOf, pointOf, literalAt, refusal};
+ghost use Rattle.sheet.specs.Steps.{Counted, GateColumns, WishColumns};
 
 pub const MOST_GATES: usize = 400;
 
@@ -33,15 +35,23 @@ pub struct Tables {
     pub third: [u32; MOST_WISHES],
 }
 
-// Counts and no entry.
-fn empty(number: u32, place: usize, switches: u32, faults: u32) -> Tables
-    ensures { λ r. ⌜ r ≡ tables number place (started switches faults) ⌝ }
+// How many of each the lines so far say.
+pub struct Counts {
+    pub switches: u32,
+    pub faults: u32,
+    pub gates: u32,
+    pub rules: u32,
+    pub wishes: u32,
+}
+
+pub fn refused(number: u32, place: usize) -> Tables
+    ensures { λ r. ⌜ r ≡ refusal number place ⌝ }
 {
     Tables {
         number,
         place,
-        switches,
-        faults,
+        switches: 0,
+        faults: 0,
         gates: 0,
         rules: 0,
         wishes: 0,
@@ -55,54 +65,60 @@ fn empty(number: u32, place: usize, switches: u32, faults: u32) -> Tables
     }
 }
 
-pub fn refused(number: u32, place: usize) -> Tables
-    ensures { λ r. ⌜ r ≡ refusal number place ⌝ }
-{
-    empty(number, place, 0, 0)
-}
+// Each of these puts one more entry after those that the columns hold, and returns the counts with it.
 
-pub fn start(switches: u32, faults: u32) -> Tables
-    ensures { λ r. ⌜ r ≡ filled (started switches faults) ⌝ }
+pub fn put_gate(
+    kind: &mut [u8; MOST_GATES],
+    left: &mut [u32; MOST_GATES],
+    right: &mut [u32; MOST_GATES],
+    c: Counts,
+    letter: u8,
+    p: u32,
+    q: u32,
+) -> Counts
+    requires { ⌜ c .gates < mostGates ⌝ }
+    ensures { λ r. ⌜ ((t : Sheet) (g : Gate) → Counted t c → GateColumns (t .gates) (now (kind .entry)) (now (left .entry)) (now (right .entry)) → letter ≡ kindOf g → p ≡ leftOf g → q ≡ rightOf g → Counted (addGate t g) r × GateColumns (t .gates ++ g ∷ []) (now (kind .exit)) (now (left .exit)) (now (right .exit))) ⌝ }
 {
-    empty(0, 0, switches, faults)
-}
-
-pub fn with_gate(u: Tables, kind: u8, left: u32, right: u32) -> Tables
-    requires { ⌜ u .gates < mostGates ⌝ }
-    ensures { λ r. ⌜ ((t : Sheet) (g : Gate) → u ≡ filled t → kind ≡ kindOf g → left ≡ leftOf g → right ≡ rightOf g → r ≡ filled (addGate t g)) ⌝ }
-{
-    let mut r = u;
-    let n = u.gates;
+    let n = c.gates;
     let at = n as usize;
-    r.kind[at] = kind;
-    r.left[at] = left;
-    r.right[at] = right;
+    kind[at] = letter;
+    left[at] = p;
+    right[at] = q;
+    let mut r = c;
     r.gates = n + 1;
     r
 }
 
-pub fn with_rule(u: Tables, point: u32) -> Tables
-    requires { ⌜ u .rules < mostRules ⌝ }
-    ensures { λ r. ⌜ ((t : Sheet) → u ≡ filled t → r ≡ filled (addRule t point)) ⌝ }
+pub fn put_rule(rule: &mut [u32; MOST_RULES], c: Counts, point: u32) -> Counts
+    requires { ⌜ c .rules < mostRules ⌝ }
+    ensures { λ r. ⌜ ((t : Sheet) → Counted t c → now (rule .entry) ≡ padded mostRules pointOf (t .rules) → Counted (addRule t point) r × (now (rule .exit) ≡ padded mostRules pointOf (t .rules ++ point ∷ []))) ⌝ }
 {
-    let mut r = u;
-    let n = u.rules;
+    let n = c.rules;
     let at = n as usize;
-    r.rule[at] = point;
+    rule[at] = point;
+    let mut r = c;
     r.rules = n + 1;
     r
 }
 
-pub fn with_wish(u: Tables, first: u32, second: u32, third: u32) -> Tables
-    requires { ⌜ u .wishes < mostWishes ⌝ }
-    ensures { λ r. ⌜ ((t : Sheet) (w : Clause) → u ≡ filled t → first ≡ literalAt 0 w → second ≡ literalAt 1 w → third ≡ literalAt 2 w → r ≡ filled (addWish t w)) ⌝ }
+pub fn put_wish(
+    first: &mut [u32; MOST_WISHES],
+    second: &mut [u32; MOST_WISHES],
+    third: &mut [u32; MOST_WISHES],
+    c: Counts,
+    x: u32,
+    y: u32,
+    z: u32,
+) -> Counts
+    requires { ⌜ c .wishes < mostWishes ⌝ }
+    ensures { λ r. ⌜ ((t : Sheet) (w : Clause) → Counted t c → WishColumns (t .wishes) (now (first .entry)) (now (second .entry)) (now (third .entry)) → x ≡ literalAt 0 w → y ≡ literalAt 1 w → z ≡ literalAt 2 w → Counted (addWish t w) r × WishColumns (t .wishes ++ w ∷ []) (now (first .exit)) (now (second .exit)) (now (third .exit))) ⌝ }
 {
-    let mut r = u;
-    let n = u.wishes;
+    let n = c.wishes;
     let at = n as usize;
-    r.first[at] = first;
-    r.second[at] = second;
-    r.third[at] = third;
+    first[at] = x;
+    second[at] = y;
+    third[at] = z;
+    let mut r = c;
     r.wishes = n + 1;
     r
 }

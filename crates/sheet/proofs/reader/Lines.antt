@@ -1,46 +1,75 @@
 -- One turn of the loop over the lines. Assumes nothing.
-use Prim.Native.Nat.{ℕ, suc, _+_, _*_, _%_, _≤_, _<_}
+use Prim.Native.Nat.{ℕ, zero, suc, _+_, _*_, _%_, _≤_, _<_}
 use native.Mathlib.Nat.{suc-mul, mul-le-mul-right, div-add-mod'}
 use native.Mathlib.Numerals.{add-one}
 use native.Mathlib.Omega.{arith}
-use mathlib.Core.Bool.{Bool, true, false, _&&_}
+use mathlib.Core.Bool.{Bool, true, false, not, _&&_}
 use mathlib.Core.List.{List}
 use mathlib.Core.Logic.{_≢_}
 use mathlib.Core.Option.{Option, none, some}
 use mathlib.Core.Path.{_≡_, refl, sym, ap, _∙_}
 use lib.Dec.{eqb, leb, ltb}
-use lib.ListN.{length, take, drop}
-use borrow.Author.Tests.{ltb-true}
+use lib.ListN.{length, take, drop, replicate}
+use borrow.Author.Tests.{eqb-true, ltb-true}
 use Rattle.scope.specs.Sheet.{Number, Sheet, Letter, H, N, A, O, R, W, Z, mostGates, mostRules, mostWishes, mostLiterals}
 use Rattle.scope.specs.Sheet as scope
 use Rattle.scope.specs.Reading.{literals, zeros, when, joined, rows, tests, add, lengthOk, lineOf, lineSize, lineCount, mostBytes, lineAt, testsAt, read}
 use Rattle.scope.specs.Causes.{Met, before, Passed, size as wrong-size, line}
 use Rattle.scope.specs.laws.Tests.{clash, both, up-to}
 use Rattle.scope.specs.laws.Refusals.{cause-refuses, no-cause-accepts}
-use Rattle.sheet.specs.Tables.{tables, filled, refusal, outcome}
+use Rattle.sheet.specs.Tables.{padded, tables, filled, refusal, outcome}
 use Rattle.sheet.specs.Lines.{letterFrom, numbersFrom, lineFrom}
-use Rattle.sheet.specs.Steps.{Counted, Few, Fault, RoomFor, Room, Sized}
+use Rattle.sheet.specs.Steps.{Counted, Held, Few, Fault, RoomFor, Room, Sized}
 use Rattle.sheet.specs.laws.Bounds.{Bounds, before-bounds}
 use Rattle.sheet.specs.declared.line.Line.{Line}
 use Rattle.sheet.specs.declared.tables.Tables.{Tables}
-use Rattle.sheet.specs.declared.causes.Counts.{Counts}
+use Rattle.sheet.specs.declared.tables.Counts.{Counts}
 use Rattle.sheet.proofs.causes.Rows.{joined-none}
+
+-- the counts and the tables as the code makes them
+abbrev counts : (switches faults gates rules wishes : ℕ) → Counts
+counts a f g r w = record { switches = a; faults = f; gates = g; rules = r; wishes = w }
+
+abbrev tablesFrom : Counts → (kind left right rule first second third : List ℕ) → Tables
+tablesFrom c kind left right rule first second third = record {
+  number = 0;
+  place = 0;
+  switches = c .switches;
+  faults = c .faults;
+  gates = c .gates;
+  rules = c .rules;
+  wishes = c .wishes;
+  kind = kind;
+  left = left;
+  right = right;
+  rule = rule;
+  first = first;
+  second = second;
+  third = third;
+}
 
 -- ---- what a line that passes finds room for
 
-room-for : (t : Sheet) (k : ℕ) (last : Bool) (c : Letter) (xs : List Number) → Bounds t → Met (rows t k last c xs) → RoomFor (filled t) c xs
-unfolding rows tables
-room-for t k last H xs b m = tt
-room-for t k last N xs b (_, (e, _)) = ltb-true (length (t .gates)) mostGates e
-room-for t k last A xs b (_, (e, _)) = ltb-true (length (t .gates)) mostGates e
-room-for t k last O xs b (_, (e, _)) = ltb-true (length (t .gates)) mostGates e
-room-for t k last R xs b (_, (e, _)) = ltb-true (length (t .rules)) mostRules e
-room-for t k last W xs b (_, (e, (f, _))) = (ltb-true (length (t .wishes)) mostWishes e, b .switches, both (literals (t .switches) (take mostLiterals xs)) (zeros (drop mostLiterals xs)) f .0)
-room-for t k last Z xs b m = tt
+-- nothing is put in before the first line
+none-before : (n k : ℕ) (s : List ℕ) → k ≡ 0 → (length (before n s k .gates) ≡ 0) × (length (before n s k .rules) ≡ 0) × (length (before n s k .wishes) ≡ 0)
+unfolding before
+none-before n zero s e = (refl, refl, refl)
+none-before n (suc k) s e = absurd (omega arith)
 
-room : (t : Sheet) (k : ℕ) (last : Bool) (o : Option scope.Line) → Bounds t → Met (tests t k last o) → Room (filled t) o
-room t k last none b m = tt
-room t k last (some l) b m = room-for t k last (l .letter) (l .fields) b m
+module _ (t : Sheet) (c : Counts) (k : ℕ) (last : Bool) (z : k ≡ 0 → (length (t .gates) ≡ 0) × (length (t .rules) ≡ 0) × (length (t .wishes) ≡ 0)) (b : Bounds t) (n : Counted t c) where
+  room-for : (l : Letter) (xs : List Number) → Met (rows t k last l xs) → RoomFor c l xs
+  unfolding rows
+  room-for H xs (e, _) = let (p, q, r) = z (eqb-true k 0 (both (eqb k 0) (not last) e .0)) in (n .gates ∙ p, n .rules ∙ q, n .wishes ∙ r)
+  room-for N xs (_, (e, _)) = rw (n .gates) (ltb-true (length (t .gates)) mostGates e)
+  room-for A xs (_, (e, _)) = rw (n .gates) (ltb-true (length (t .gates)) mostGates e)
+  room-for O xs (_, (e, _)) = rw (n .gates) (ltb-true (length (t .gates)) mostGates e)
+  room-for R xs (_, (e, _)) = rw (n .rules) (ltb-true (length (t .rules)) mostRules e)
+  room-for W xs (_, (e, (f, _))) = rw (n .wishes, n .switches) (ltb-true (length (t .wishes)) mostWishes e, b .switches, both (literals (t .switches) (take mostLiterals xs)) (zeros (drop mostLiterals xs)) f .0)
+  room-for Z xs m = tt
+
+  room : (o : Option scope.Line) → Met (tests t k last o) → Room c o
+  room none m = tt
+  room (some l) m = room-for (l .letter) (l .fields) m
 
 -- and that it is formed
 formed-line : (t : Sheet) (k : ℕ) (last : Bool) (c : Option Letter) (xs : List Number) (f : Bool) → Met (tests t k last (joined c (when f xs))) → joined c (when f xs) ≡ joined c (some xs)
@@ -49,13 +78,23 @@ formed-line t k last c xs false m = let p : Met (tests t k last none) = rw (join
 
 -- ---- the lines before line k are taken in
 
-pub record Reached (n : ℕ) (s : List ℕ) (k : ℕ) (u : Tables) : Type 0 where
+pub record Reached (n : ℕ) (s : List ℕ) (k : ℕ) (c : Counts) (kind left right rule first second third : List ℕ) : Type 0 where
   pub within : k ≤ lineCount n s
-  pub is : u ≡ filled (before n s k)
+  pub held : Held (before n s k) c kind left right rule first second third
   pub passed : (j : ℕ) → j < k → Passed n s j
 
-pub begun : (n : ℕ) (s : List ℕ) (u : Tables) → u ≡ filled (before n s 0) → Reached n s 0 u
-begun n s u e = record { within = omega arith; is = e; passed = λ j h. absurd (omega arith) }
+pub begun : (n : ℕ) (s : List ℕ) → Reached n s 0 (counts 0 0 0 0 0) (replicate mostGates 0) (replicate mostGates 0) (replicate mostGates 0) (replicate mostRules 0) (replicate mostWishes 0) (replicate mostWishes 0) (replicate mostWishes 0)
+unfolding before padded
+begun n s = record {
+  within = omega arith;
+  held = record {
+    counts = record { switches = refl; faults = refl; gates = refl; rules = refl; wishes = refl };
+    gates = record { kinds = refl; lefts = refl; rights = refl };
+    rules = refl;
+    wishes = record { firsts = refl; seconds = refl; thirds = refl };
+  };
+  passed = λ j h. absurd (omega arith);
+}
 
 pub line-fits : (n k size count : ℕ) (s : List ℕ) → Sized n s size count → k < count → k * size + lineSize n ≤ length s
 line-fits n k size count s z h =
@@ -63,35 +102,24 @@ line-fits n k size count s z h =
     let c : suc k ≤ lineCount n s = omega (arith, z .count) in
     rw e (omega (arith, suc-mul k (lineSize n), mul-le-mul-right (lineSize n) c, div-add-mod' (length s) (lineSize n)))
 
--- the counts as the code takes them
-abbrev pub countsOf : Tables → Counts
-countsOf u = record { switches = u .switches; faults = u .faults; gates = u .gates; rules = u .rules; wishes = u .wishes }
-
-filled-counts : (t : Sheet) (u : Tables) → u ≡ filled t → Counted t (countsOf u)
-unfolding tables
-filled-counts t u e = rw e (record { switches = refl; faults = refl; gates = refl; rules = refl; wishes = refl })
-
-module _ (n k : ℕ) (s : List ℕ) (u : Tables) (h : Reached n s k u) where
-  counted : Counted (before n s k) (countsOf u)
-  counted = filled-counts (before n s k) u (h .is)
-
+module _ (n k : ℕ) (s : List ℕ) (c : Counts) (kind left right rule first second third : List ℕ) (h : Reached n s k c kind left right rule first second third) where
   bounds : Bounds (before n s k)
   bounds = before-bounds n s k (h .passed)
 
-  pub few : Few (countsOf u)
-  few = record { switches = omega (arith, counted .switches, bounds .switches); faults = omega (arith, counted .faults, bounds .faults); gates = omega (arith, counted .gates, bounds .gates) }
+  pub few : Few c
+  few = let m = h .held .counts in record { switches = omega (arith, m .switches, bounds .switches); faults = omega (arith, m .faults, bounds .faults); gates = omega (arith, m .gates, bounds .gates) }
 
--- line k as the code read it, and f, the number of its first unmet test
-module _ (n k size count f : ℕ) (s : List ℕ) (u : Tables) (l : Line) (z : Sized n s size count) (h : Reached n s k u) (b : k < count)
+-- line l of the code, which is line k, and f, the number of its first unmet test
+module _ (n k size count f : ℕ) (s : List ℕ) (c : Counts) (kind left right rule first second third : List ℕ) (l : Line) (z : Sized n s size count) (h : Reached n s k c kind left right rule first second third) (b : k < count)
     (e : lineFrom n l ≡ lineOf n (take (lineSize n) (drop (k * size) s)))
-    (p : (t : Sheet) → Counted t (countsOf u) → Fault (tests t k (eqb (k + 1) count) (lineFrom n l)) f) where
+    (p : (t : Sheet) → Counted t c → Fault (tests t k (eqb (k + 1) count) (lineFrom n l)) f) where
   read-as : lineFrom n l ≡ lineAt n s k
   unfolding lineAt
   read-as = rw (z .size) at e
 
   told : Fault (testsAt n s (before n s k) k) f
   unfolding testsAt
-  told = rw (← read-as, ← z .count, ← add-one k) (p (before n s k) (counted n k s u h))
+  told = rw (← read-as, ← z .count, ← add-one k) (p (before n s k) (h .held .counts))
 
   pub turned-down : f ≢ 0 → refusal f (k + 1) ≡ outcome (read n s)
   turned-down q = rw (cause-refuses n s (line k (z .right) (rw (z .count) at b) (h .passed) (told .first q)), add-one)
@@ -106,23 +134,28 @@ module _ (n k size count f : ℕ) (s : List ℕ) (u : Tables) (l : Line) (z : Si
       let m : Passed n s k = told .met q in
       (m, sym read-as ∙ formed-line (before n s k) k (eqb (suc k) (lineCount n s)) (letterFrom (l .letter)) (numbersFrom n (l .numbers)) (l .formed) (rw (← read-as) at m))
 
-  pub found-room : f ≡ 0 → Room u o
+  pub found-room : f ≡ 0 → Room c o
   unfolding testsAt
   found-room q =
       let (m, i) = passes q in
-      rw (h .is, ← i) (room (before n s k) k (eqb (suc k) (lineCount n s)) (lineAt n s k) (bounds n k s u h) m)
+      rw (← i) (room (before n s k) c k (eqb (suc k) (lineCount n s)) (none-before n k s) (bounds n k s c kind left right rule first second third h) (h .held .counts) (lineAt n s k) m)
 
-  pub reached-next : (w : Tables) → f ≡ 0 → ((t : Sheet) → u ≡ filled t → w ≡ filled (add t o)) → Reached n s (k + 1) w
+  pub reached-next : (r : Counts) (k' l' m' r' x' y' z' : List ℕ) → f ≡ 0 → ((t : Sheet) → Held t c kind left right rule first second third → Held (add t o) r k' l' m' r' x' y' z') → Reached n s (k + 1) r k' l' m' r' x' y' z'
   unfolding before
-  reached-next w q g =
+  reached-next r k' l' m' r' x' y' z' q g =
       let (m, i) = passes q in
-      let c : k < lineCount n s = rw (z .count) at b in
-      rw add-one (record { within = omega arith; is = g (before n s k) (h .is) ∙ ap (λ x. filled (add (before n s k) x)) (sym i); passed = up-to k (h .passed) m })
+      let w : k < lineCount n s = rw (z .count) at b in
+      rw add-one (record { within = omega arith; held = rw i (g (before n s k) (h .held)); passed = up-to k (h .passed) m })
 
-pub taken-in : (n k size count : ℕ) (s : List ℕ) (u : Tables) → Sized n s size count → count ≤ k → Reached n s k u → u ≡ outcome (read n s)
-taken-in n k size count s u z b h =
+module _ (t : Sheet) (c : Counts) (kind left right rule first second third : List ℕ) (h : Held t c kind left right rule first second third) where
+  held-tables : tablesFrom c kind left right rule first second third ≡ filled t
+  unfolding tables
+  held-tables = rw (h .counts .switches, h .counts .faults, h .counts .gates, h .counts .rules, h .counts .wishes, h .gates .kinds, h .gates .lefts, h .gates .rights, h .rules, h .wishes .firsts, h .wishes .seconds, h .wishes .thirds)
+
+pub taken-in : (n k size count : ℕ) (s : List ℕ) (c : Counts) (kind left right rule first second third : List ℕ) → Sized n s size count → count ≤ k → Reached n s k c kind left right rule first second third → tablesFrom c kind left right rule first second third ≡ outcome (read n s)
+taken-in n k size count s c kind left right rule first second third z b h =
     let e : k ≡ lineCount n s = omega (arith, h .within, z .count) in
-    h .is ∙ rw (no-cause-accepts n s record { size = z .right; lines = λ j g. h .passed j (omega arith) }) (ap (λ j. filled (before n s j)) e)
+    held-tables (before n s k) c kind left right rule first second third (h .held) ∙ rw (no-cause-accepts n s record { size = z .right; lines = λ j g. h .passed j (omega arith) }) (ap (λ j. filled (before n s j)) e)
 
 -- the test of the length as the code makes it
 pub length-told : (n m : ℕ) {whole right : Bool} → right ≡ (ltb 0 m && whole) → whole ≡ (leb m (mostBytes n) && eqb (m % lineSize n) 0) → right ≡ lengthOk n m

@@ -1,5 +1,6 @@
 -- One more entry in an array of the tables. Assumes nothing.
-use Prim.Native.Nat.{ℕ, suc, _-_, _<_}
+use Prim.Native.Nat.{ℕ, suc, _+_, _-_, _<_}
+use native.Mathlib.Numerals.{add-one}
 use native.Mathlib.Omega.{arith}
 use mathlib.Core.List.{List, [], _∷_, _++_, map, append-assoc}
 use mathlib.Core.Path.{_≡_, refl, sym, ap, _∙_}
@@ -11,6 +12,9 @@ use Rattle.sheet.specs.Tables.{padded}
 map-snoc : {A B : Type 0} (f : A → B) (l : List A) (a : A) → map f (l ++ a ∷ []) ≡ map f l ++ f a ∷ []
 map-snoc f [] a = refl
 map-snoc f (b ∷ l) a = ap (λ r. f b ∷ r) (map-snoc f l a)
+
+pub one-more : {A : Type 0} (l : List A) (a : A) {n : ℕ} → n ≡ length l → n + 1 ≡ length (l ++ a ∷ [])
+one-more l a e = rw (e, length-snoc l a, add-one)
 
 pub set-padded : {A : Type 0} (n : ℕ) (f : A → ℕ) (l : List A) (a : A) → length l < n → set (padded n f l) (length l) (f a) ≡ padded n f (l ++ a ∷ [])
 unfolding padded

@@ -1,36 +1,33 @@
-use Rattle.scope.specs.Causes.{before}
-use Rattle.sheet.proofs.reader.Lines.{Reached, begun, line-fits, few, found-room, reached-next, turned-down, taken-in}
-use mathlib.Core.Path.{_∙_}
 use Prim.Native.Nat.{_-_}
 use native.Mathlib.Omega.{arith}
+use mathlib.Core.Path.{_∙_}
+use Rattle.sheet.proofs.reader.Lines.{Reached, begun, line-fits, few, found-room, reached-next, turned-down, taken-in}
 use borrow.Author.Needs.{needs}
 use Rattle.sheet.proofs.reader.read_lines.Statement.{statement}
 use Rattle.sheet.proofs.reader.read_lines.Tie as tie
 
 abbrev Inv-loop : tie.InvT-loop
-Inv-loop s n size count u₀ k₀ u k = Reached n s k u
+Inv-loop s n size count kind₀ left₀ right₀ rule₀ first₀ second₀ third₀ c₀ k₀ kind left right rule first second third c k =
+    Reached n s k c kind left right rule first second third
 
 abbrev μ-loop : tie.MeasureT-loop
-μ-loop s n size count u₀ k₀ u k = count - k
-
-start-requires : tie.Need-start-requires Inv-loop μ-loop
-start-requires c κs = search needs
+μ-loop s n size count kind₀ left₀ right₀ rule₀ first₀ second₀ third₀ c₀ k₀ kind left right rule first second third c k =
+    count - k
 
 loop-holds : tie.Need-loop-holds Inv-loop μ-loop
-unfolding before
-loop-holds c = begun _ _ _ (c .start .ensures)
+loop-holds c = begun _ _
 
 mul-line-at : tie.Need-mul-line-at Inv-loop μ-loop
-mul-line-at c = omega (arith, line-fits _ _ _ _ _ (c .before .before .before .before .pre) (c .loop-test .taken))
+mul-line-at c = omega (arith, line-fits _ _ _ _ _ (c .before .before .before .pre) (c .loop-test .taken))
 
 line-at-requires : tie.Need-line-at-requires Inv-loop μ-loop
-line-at-requires c κs = (c .before .before .before .before .pre .most, line-fits _ _ _ _ _ (c .before .before .before .before .pre) (c .loop-test .taken))
+line-at-requires c κs = (c .before .before .before .pre .most, line-fits _ _ _ _ _ (c .before .before .before .pre) (c .loop-test .taken))
 
 add-line-fault : tie.Need-add-line-fault Inv-loop μ-loop
 add-line-fault c = search needs
 
 line-fault-requires : tie.Need-line-fault-requires Inv-loop μ-loop
-line-fault-requires c κs = (few _ _ _ _ (c .before .before .loop .inv), c .before .before .before .before .before .pre .least, c .before .before .before .before .before .pre .most)
+line-fault-requires c κs = (few _ _ _ _ _ _ _ _ _ _ _ (c .before .before .loop .inv), c .before .before .before .before .pre .least, c .before .before .before .before .pre .most)
 
 add-refused : tie.Need-add-refused Inv-loop μ-loop
 add-refused c = search needs
@@ -39,10 +36,10 @@ refused-requires : tie.Need-refused-requires Inv-loop μ-loop
 refused-requires c κs = search needs
 
 returns : tie.Need-returns Inv-loop μ-loop
-returns c = c .refused .ensures ∙ turned-down _ _ _ _ _ _ _ _ (c .before .before .before .before .before .before .before .before .pre) (c .before .before .before .before .before .loop .inv) (c .before .before .before .before .loop-test .taken) (c .before .before .before .line-at .ensures) (c .before .before .line-fault .ensures) (c .before .if1 .taken)
+returns c = c .refused .ensures ∙ turned-down _ _ _ _ _ _ _ _ _ _ _ _ _ _ _ (c .before .before .before .before .before .before .before .pre) (c .before .before .before .before .before .loop .inv) (c .before .before .before .before .loop-test .taken) (c .before .before .before .line-at .ensures) (c .before .before .line-fault .ensures) (c .before .if1 .taken)
 
-with-line-requires : tie.Need-with-line-requires Inv-loop μ-loop
-with-line-requires c κs = (found-room _ _ _ _ _ _ _ _ (c .before .before .before .before .before .before .before .before .pre) (c .before .before .before .before .before .loop .inv) (c .before .before .before .before .loop-test .taken) (c .before .before .before .line-at .ensures) (c .before .before .line-fault .ensures) (c .before .if1 .left), c .before .before .before .before .before .before .before .before .pre .least, c .before .before .before .before .before .before .before .before .pre .most)
+take-line-requires : tie.Need-take-line-requires Inv-loop μ-loop
+take-line-requires c κs = (found-room _ _ _ _ _ _ _ _ _ _ _ _ _ _ _ (c .before .before .before .before .before .before .before .before .before .before .before .before .before .before .pre) (c .before .before .before .before .before .before .before .before .before .before .before .before .loop .inv) (c .before .before .before .before .before .before .before .before .before .before .before .loop-test .taken) (c .before .before .before .before .before .before .before .before .before .before .line-at .ensures) (c .before .before .before .before .before .before .before .before .before .line-fault .ensures) (c .before .before .before .before .before .before .before .before .if1 .left), c .before .before .before .before .before .before .before .before .before .before .before .before .before .before .pre .least, c .before .before .before .before .before .before .before .before .before .before .before .before .before .before .pre .most)
 
 add-k : tie.Need-add-k Inv-loop μ-loop
 add-k c = search needs
@@ -51,10 +48,10 @@ loop-less : tie.Need-loop-less Inv-loop μ-loop
 loop-less c = search needs
 
 loop-again : tie.Need-loop-again Inv-loop μ-loop
-loop-again c = reached-next _ _ _ _ _ _ _ _ (c .before .before .before .before .before .before .before .before .before .pre) (c .before .before .before .before .before .before .loop .inv) (c .before .before .before .before .before .loop-test .taken) (c .before .before .before .before .line-at .ensures) (c .before .before .before .line-fault .ensures) _ (c .before .before .if1 .left) (c .with-line .ensures)
+loop-again c = reached-next _ _ _ _ _ _ _ _ _ _ _ _ _ _ _ (c .before .before .before .before .before .before .before .before .before .before .before .before .before .before .before .pre) (c .before .before .before .before .before .before .before .before .before .before .before .before .before .loop .inv) (c .before .before .before .before .before .before .before .before .before .before .before .before .loop-test .taken) (c .before .before .before .before .before .before .before .before .before .before .before .line-at .ensures) (c .before .before .before .before .before .before .before .before .before .before .line-fault .ensures) _ _ _ _ _ _ _ _ (c .before .before .before .before .before .before .before .before .before .if1 .left) (c .take-line .ensures)
 
 returns-2 : tie.Need-returns-2 Inv-loop μ-loop
-returns-2 c = taken-in _ _ _ _ _ _ (c .before .before .before .before .pre) (c .loop-test .left) (c .before .loop .inv)
+returns-2 c = taken-in _ _ _ _ _ _ _ _ _ _ _ _ _ (c .before .before .before .pre) (c .loop-test .left) (c .before .loop .inv)
 
 pub read-lines-spec : {M : Type 1} → statement M
 read-lines-spec =
@@ -62,7 +59,6 @@ read-lines-spec =
     (tie.spec
     Inv-loop
     μ-loop
-    start-requires
     loop-holds
     mul-line-at
     line-at-requires
@@ -71,7 +67,7 @@ read-lines-spec =
     add-refused
     refused-requires
     returns
-    with-line-requires
+    take-line-requires
     add-k
     loop-less
     loop-again
