@@ -71,10 +71,6 @@ module _ (out : List ℕ) (at : ℕ) (s : List ℕ) (room : at + length s ≤ le
   head-length : length (take at out ++ s) ≡ at + length s
   head-length = omega (arith, length-append (take at out) s, length-take-le at out (omega arith))
 
-  pub length-put : length (put out at s) ≡ length out
-  unfolding put
-  length-put = omega (arith, length-append (take at out ++ s) (drop (at + length s) out), head-length, length-drop (at + length s) out)
-
   pub put-more : (r : List ℕ) → put (put out at s) (at + length s) r ≡ put out at (s ++ r)
   unfolding put
   put-more r =
