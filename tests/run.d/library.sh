@@ -137,6 +137,31 @@ else
 fi
 one_test "the header's calls are the archive's" same_calls
 
+# ---- the program's stored runs
+
+# Tries the program on each sheet of tests/runs/ and says which listing is not the stored one, byte
+# for byte.
+stored_runs() {
+    n=0
+    m=0
+    for sheet in tests/runs/*.sheet; do
+        if limited 60 "$program" <"$sheet" | cmp - "${sheet%.sheet}.expected"; then
+            n=$((n + 1))
+        else
+            echo "FAILED: $sheet"
+            m=$((m + 1))
+        fi
+    done
+    echo "$n passed, $m failed"
+    [ "$m" -eq 0 ]
+}
+
+if [ -x "$program" ]; then
+    counted "the program's stored runs" stored_runs
+else
+    fail "the stored runs were not tried, as there is no target/bin/plan"
+fi
+
 # ---- the examples
 
 # What an example program prints for its own sheet and for those of examples/.
@@ -188,8 +213,9 @@ fi
 
 counted "the library against the brute force" limited 1200 "$built/release/compare-library"
 if [ -x "$program" ]; then
+    # The run that ends in 9 takes the brute force too long.
     counted "the program against the brute force" \
-        limited 1200 "$built/release/compare-program" "$program" examples/*.sheet
+        limited 1200 "$built/release/compare-program" "$program" examples/*.sheet tests/runs/[1-8]*.sheet
 else
     fail "the program was not compared, as there is no target/bin/plan"
 fi
