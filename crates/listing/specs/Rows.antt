@@ -9,7 +9,7 @@ use mathlib.Core.List.{List, [], _∷_, _++_, append-assoc, append-nil}
 use mathlib.Core.Logic.{_≢_}
 use mathlib.Core.Path.{_≡_, refl, sym, ap, ap₂, _∙_}
 use lib.Dec.{eqb}
-use lib.ListN.{length, getD, take, drop, replicate, length-append, length-drop, take-append-drop}
+use lib.ListN.{length, getD, take, drop, replicate, length-append, take-append-drop}
 use lib.Seq.{length-take-le, take-at, drop-at, drop-drop, take-length, take-suc, paste}
 use borrow.Author.Tests.{ne-eqb}
 use Rattle.scope.specs.Sheet.{plus, fieldSize, digit, decimal, justified, field, fieldsBytes}

@@ -3,7 +3,7 @@ use circuit::Pattern;
 use circuit::Plan;
 ghost use mathlib.Core.List.{List};
 ghost use mathlib.Core.Path.{_≡_};
-ghost use Prim.Native.Nat.{_+_};
+ghost use Prim.Native.Nat.{_+_, _^_, _<_};
 ghost use lib.ListN.{length};
 ghost use Rattle.scope.specs.Sheet.{Clause, All, Among};
 ghost use Rattle.scope.specs.Pick.{keep};
@@ -11,7 +11,7 @@ ghost use Rattle.scope.specs.Rule.{passesAll};
 ghost use Rattle.scope.specs.Rule as rule;
 ghost use Rattle.circuit.specs.Lent.{Gates, circuit};
 ghost use Rattle.search.specs.Table.{table, tableOf, Lent, bestOf, Priced};
-ghost use Rattle.search.specs.laws.Steps.{improvesOf};
+ghost use Rattle.search.specs.laws.Steps.{failsOf, Fails, improvesOf};
 
 // Whether the plan passes each pattern of the list; left at the first that it does not. The patterns are
 // tried from the last: those were found by plans that passed all the others, and fewer plans pass them.
@@ -54,8 +54,24 @@ fn improves(best: Best, cost: u32) -> bool
     }
 }
 
+// Whether a plan is known to fail the list, where `last` was the candidate before the newest pattern was
+// listed: it fails that pattern, and a plan that is better than it fails an earlier one.
+fn known_to_fail(last: Best, cost: u32, plan: Plan) -> bool
+    ensures { λ r. ⌜ r ≡ failsOf last cost (plan .0) ⌝ }
+{
+    match last {
+        Best::Nothing => false,
+        Best::At(candidate, least) => {
+            if cost == least {
+                return plan.0 <= candidate.0;
+            }
+            cost < least
+        }
+    }
+}
+
 // The better of the best so far and the next plan. Its cost is looked at first: a plan that costs no
-// less is left before any pattern is tried.
+// less, or is known to fail, is left before any pattern is tried.
 fn with_plan(
     kind: &[u8],
     left: &[u32],
@@ -67,13 +83,17 @@ fn with_plan(
     a: u32,
     f: u32,
     list: &[u32],
+    last: Best,
     best: Best,
     plan: Plan,
 ) -> Best
-    requires { ⌜ Lent a f (now kind) (now left) (now right) (now rules) (now first) (now second) (now third) × Priced (tableOf a f (now kind) (now left) (now right) (now rules) (now first) (now second) (now third)) best ⌝ }
+    requires { ⌜ Lent a f (now kind) (now left) (now right) (now rules) (now first) (now second) (now third) × Fails (tableOf a f (now kind) (now left) (now right) (now rules) (now first) (now second) (now third)) (now list) last × Priced (tableOf a f (now kind) (now left) (now right) (now rules) (now first) (now second) (now third)) best × (plan .0 < 2 ^ a) ⌝ }
     ensures { λ r. ⌜ (bestOf r ≡ keep (tableOf a f (now (kind .entry)) (now (left .entry)) (now (right .entry)) (now (rules .entry)) (now (first .entry)) (now (second .entry)) (now (third .entry)) .cost) (passesAll (tableOf a f (now (kind .entry)) (now (left .entry)) (now (right .entry)) (now (rules .entry)) (now (first .entry)) (now (second .entry)) (now (third .entry))) (plan .0) (now (list .entry))) (plan .0) (bestOf best)) × Priced (tableOf a f (now (kind .entry)) (now (left .entry)) (now (right .entry)) (now (rules .entry)) (now (first .entry)) (now (second .entry)) (now (third .entry))) r ⌝ }
 {
     let cost = circuit::wish::broken(first, second, third, a, plan);
+    if known_to_fail(last, cost, plan) {
+        return best;
+    }
     if improves(best, cost) {
         if passes_all(kind, left, right, rules, a, f, list, plan) {
             return Best::At(plan, cost);
@@ -82,7 +102,8 @@ fn with_plan(
     best
 }
 
-// The best plan that passes everything listed.
+// The best plan that passes everything listed. `last` is the candidate before the newest pattern was
+// listed, or nothing where none is known.
 pub fn best_plan(
     kind: &[u8],
     left: &[u32],
@@ -94,8 +115,9 @@ pub fn best_plan(
     a: u32,
     f: u32,
     list: &[u32],
+    last: Best,
 ) -> Best
-    requires { ⌜ Lent a f (now kind) (now left) (now right) (now rules) (now first) (now second) (now third) ⌝ }
+    requires { ⌜ Lent a f (now kind) (now left) (now right) (now rules) (now first) (now second) (now third) × Fails (tableOf a f (now kind) (now left) (now right) (now rules) (now first) (now second) (now third)) (now list) last ⌝ }
     ensures { λ r. ⌜ (bestOf r ≡ rule.best (tableOf a f (now (kind .entry)) (now (left .entry)) (now (right .entry)) (now (rules .entry)) (now (first .entry)) (now (second .entry)) (now (third .entry))) (now (list .entry))) × Priced (tableOf a f (now (kind .entry)) (now (left .entry)) (now (right .entry)) (now (rules .entry)) (now (first .entry)) (now (second .entry)) (now (third .entry))) r ⌝ }
 {
     let end = circuit::rule::power(a);
@@ -113,6 +135,7 @@ pub fn best_plan(
             a,
             f,
             list,
+            last,
             best,
             Plan(i),
         );

@@ -11,12 +11,12 @@ ghost use Rattle.scope.specs.Sheet.{Clause, All, Among};
 ghost use Rattle.scope.specs.Rule as rule;
 ghost use Rattle.circuit.specs.Lent.{Gates, circuit};
 ghost use Rattle.search.specs.Table.{table, tableOf, Lent, bestOf, Priced, Ran};
-ghost use Rattle.search.specs.laws.Steps.{Stepped};
+ghost use Rattle.search.specs.laws.Steps.{Fails, Stepped};
 
-// What a round comes to: the run's end, or one pattern more.
+// What a round comes to: the run's end, or one pattern more, with the candidate that misses it.
 enum Step {
     Done(Best),
-    Add(Pattern),
+    Add(Pattern, Best),
 }
 
 // What follows from the candidate.
@@ -38,13 +38,13 @@ fn judge(
             let missed = circuit::rule::first_missed(kind, left, right, rules, a, f, plan);
             match missed {
                 Missed::Nothing => Step::Done(Best::At(plan, cost)),
-                Missed::At(pattern) => Step::Add(pattern),
+                Missed::At(pattern) => Step::Add(pattern, Best::At(plan, cost)),
             }
         }
     }
 }
 
-// One round over the patterns listed so far.
+// One round over the patterns listed so far; `last` is the candidate of the round before.
 fn round(
     kind: &[u8],
     left: &[u32],
@@ -56,11 +56,24 @@ fn round(
     a: u32,
     f: u32,
     list: &[u32],
+    last: Best,
 ) -> Step
-    requires { ⌜ Lent a f (now kind) (now left) (now right) (now rules) (now first) (now second) (now third) ⌝ }
+    requires { ⌜ Lent a f (now kind) (now left) (now right) (now rules) (now first) (now second) (now third) × Fails (tableOf a f (now kind) (now left) (now right) (now rules) (now first) (now second) (now third)) (now list) last ⌝ }
     ensures { λ r. ⌜ Stepped (tableOf a f (now (kind .entry)) (now (left .entry)) (now (right .entry)) (now (rules .entry)) (now (first .entry)) (now (second .entry)) (now (third .entry))) (now (list .entry)) r ⌝ }
 {
-    let best = best_plan(kind, left, right, rules, first, second, third, a, f, list);
+    let best = best_plan(
+        kind,
+        left,
+        right,
+        rules,
+        first,
+        second,
+        third,
+        a,
+        f,
+        list,
+        last,
+    );
     judge(kind, left, right, rules, a, f, best)
 }
 
@@ -88,6 +101,7 @@ pub fn run_rounds(
     ensures { λ r. ⌜ Ran (tableOf a f (now (kind .entry)) (now (left .entry)) (now (right .entry)) (now (rules .entry)) (now (first .entry)) (now (second .entry)) (now (third .entry))) (now (list .entry)) r (now (list .exit)) ⌝ }
 {
     let mut n = 0;
+    let mut last = Best::Nothing;
     loop {
         let step = round(
             kind,
@@ -100,8 +114,9 @@ pub fn run_rounds(
             a,
             f,
             &list[..n],
+            last,
         );
-        let pattern = match step {
+        match step {
             Step::Done(best) => {
                 return Run {
                     full: false,
@@ -109,16 +124,18 @@ pub fn run_rounds(
                     length: n,
                 }
             }
-            Step::Add(pattern) => pattern,
-        };
-        if n == list.len() {
-            return Run {
-                full: true,
-                best: Best::Nothing,
-                length: n,
-            };
+            Step::Add(pattern, candidate) => {
+                if n == list.len() {
+                    return Run {
+                        full: true,
+                        best: Best::Nothing,
+                        length: n,
+                    };
+                }
+                list[n] = pattern.0;
+                n += 1;
+                last = candidate;
+            }
         }
-        list[n] = pattern.0;
-        n += 1;
     }
 }

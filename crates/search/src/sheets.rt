@@ -40,6 +40,7 @@ pub fn short_run(
         a,
         f,
         list,
+        Best::Nothing,
     )
 }
 

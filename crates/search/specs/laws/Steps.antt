@@ -3,21 +3,22 @@ use Prim.Native.Nat.{ℕ, suc, _+_, _-_, _≤_, _<_}
 use native.Mathlib.Nat.{sub-zero}
 use native.Mathlib.Omega.{arith}
 use native.Mathlib.Numerals.{add-one}
-use mathlib.Core.Bool.{Bool, true, false}
+use mathlib.Core.Bool.{Bool, true, false, cond}
 use mathlib.Core.List.{List, [], _∷_, _++_}
 use mathlib.Core.Option.{none, some}
 use mathlib.Core.Path.{_≡_, refl, sym, ap, subst, _∙_}
-use lib.Dec.{ltb}
+use lib.Dec.{eqb, leb, ltb}
 use lib.ListN.{length, getD, take, drop, set, length-set, take-append-drop}
 use lib.Seq.{length-take-le, take-suc-set, drop-set-lt, drop-drop}
 use Rattle.scope.specs.Sheet.{Clause, Sheet, mostWishes, All, Wish}
-use Rattle.scope.specs.Meaning.{distinct}
+use borrow.Author.Tests.{eqb-true, leb-true, ltb-true, not-true}
+use Rattle.scope.specs.Meaning.{passes, distinct}
 use Rattle.scope.specs.Pick.{keep, pick}
 use Rattle.scope.specs.Rule.{Task, Run, passesAll, best, missed, missedBy, next, short, rule}
 use Rattle.scope.specs.Jobs.{task, over}
-use Rattle.scope.specs.laws.Tests.{clash}
-use Rattle.scope.specs.laws.Picks.{pick-next}
-use Rattle.scope.specs.laws.Rules.{passes-at, rule-stop, rule-full, rule-more}
+use Rattle.scope.specs.laws.Tests.{clash, both}
+use Rattle.scope.specs.laws.Picks.{Ahead, pick-next}
+use Rattle.scope.specs.laws.Rules.{passes-at, best-iff, missed-iff, rule-stop, rule-full, rule-more}
 use Rattle.circuit.specs.declared.Plan.{Plan}
 use Rattle.circuit.specs.declared.Pattern.{Pattern}
 use Rattle.circuit.specs.declared.rule.Missed.{Missed}
@@ -39,6 +40,48 @@ passes-not t p l i h e = go (passesAll t p l) refl
     go : (b : Bool) → passesAll t p l ≡ b → b ≡ false
     go true f = clash (passes-at t p l f i h) e
     go false f = refl
+
+pub passes-front : (t : Task) (p : ℕ) (l : List ℕ) (q : ℕ) → passesAll t p (l ++ q ∷ []) ≡ true → (passesAll t p l ≡ true) × (t .passes p q ≡ true)
+passes-front t p [] q e = (refl, both (t .passes p q) true e .0)
+passes-front t p (x ∷ l) q e =
+    let (a, b) = both (t .passes p x) (passesAll t p (l ++ q ∷ [])) e in
+    let (c, d) = passes-front t p l q b in
+    (rw a c, d)
+
+-- ---- plans that are known to fail
+
+-- the candidate b, and every plan that is better: plan n, of cost c
+unfoldable pub failsOf : Best → ℕ → ℕ → Bool
+failsOf Nothing c n = false
+failsOf (At p least) c n = cond (eqb c least) (leb n (p .0)) (ltb c least)
+
+pub record Fails (t : Task) (l : List ℕ) (b : Best) : Type 0 where
+  pub fail : (n : ℕ) → n < t .plans → failsOf b (t .cost n) n ≡ true → passesAll t n l ≡ false
+
+pub none-fails : (t : Task) (l : List ℕ) → Fails t l Nothing
+unfolding failsOf
+none-fails t l = record { fail = λ n h e. clash e refl }
+
+-- the candidate misses q, which is listed next
+module _ (t : Task) (l : List ℕ) (p : Plan) (c q : ℕ) (candidate : best t l ≡ some (p .0)) (priced : c ≡ t .cost (p .0)) (misses : t .passes (p .0) q ≡ false) where
+  no-better : (n : ℕ) → n < t .plans → failsOf (At p c) (t .cost n) n ≡ true → passesAll t n l ≡ true → n ≡ p .0
+  unfolding failsOf
+  no-better n h e f =
+      let a = best-iff t l (some (p .0)) .0 candidate .ahead n h f in
+      go (eqb (t .cost n) c) refl e a
+    where
+      go : (b : Bool) → eqb (t .cost n) c ≡ b → cond b (leb n (p .0)) (ltb (t .cost n) c) ≡ true → Ahead (t .cost) (p .0) n → n ≡ p .0
+      go true d e a = omega (arith, eqb-true (t .cost n) c d, leb-true n (p .0) e, a .first (omega (arith, priced, eqb-true (t .cost n) c d)))
+      go false d e a = absurd (omega (arith, ltb-true (t .cost n) c e, priced, a .cheap))
+
+  no-pass : (n : ℕ) → n < t .plans → failsOf (At p c) (t .cost n) n ≡ true → (b : Bool) → passesAll t n (l ++ q ∷ []) ≡ b → b ≡ false
+  no-pass n h e true f =
+      let (a, d) = passes-front t n l q f in
+      clash d (rw (no-better n h e a) misses)
+  no-pass n h e false f = refl
+
+  pub next-fails : Fails t (l ++ q ∷ []) (At p c)
+  next-fails = record { fail = λ n h e. no-pass n h e (passesAll t n (l ++ q ∷ [])) refl }
 
 -- ---- the better of two
 
@@ -87,7 +130,7 @@ picks-best t l n b e f = f ∙ ap (pick (t .cost) (λ p. passesAll t p l)) e
 
 abbrev pub Stepped : Task → List ℕ → Step → Type 0
 Stepped t l (Done b) = (next t l ≡ none) × (bestOf b ≡ best t l) × Priced t b
-Stepped t l (Add q) = next t l ≡ some (q .0)
+Stepped t l (Add q b) = (next t l ≡ some (q .0)) × Fails t (l ++ q .0 ∷ []) b
 
 -- what follows from the best plan, b, and the pattern that it misses, m; a plan misses the same whatever the cost
 module _ (t : Sheet) (ws : List Clause) (l : List ℕ) (b : Best) (best-is : bestOf b ≡ best (table t ws) l) (priced : Priced (table t ws) b) where
@@ -108,8 +151,11 @@ module _ (t : Sheet) (ws : List Clause) (l : List ℕ) (b : Best) (best-is : bes
     pub candidate-sound : m ≡ Missed.Nothing → Stepped (table t ws) l (Done (At p c))
     candidate-sound f = (next-is ∙ ap missedOf f, candidate, rw e at priced)
 
-    pub candidate-misses : (q : Pattern) → m ≡ Missed.At q → Stepped (table t ws) l (Add q)
-    candidate-misses q f = next-is ∙ ap missedOf f
+    pub candidate-misses : (q : Pattern) → m ≡ Missed.At q → Stepped (table t ws) l (Add q (At p c))
+    unfolding missed
+    candidate-misses q f =
+        let g : missed (task t) (p .0) ≡ some (q .0) = sym missed-is ∙ ap missedOf f in
+        (next-is ∙ ap missedOf f, next-fails (table t ws) l p c (q .0) (sym candidate) (rw e at priced) (not-true (passes t (p .0) (q .0)) (missed-iff (task t) (p .0) (some (q .0)) .0 g .good)))
 
 -- ---- the lent list: n patterns listed, the rest as it was
 

@@ -8,13 +8,13 @@ use Rattle.search.proofs.best.best_plan.Statement.{statement}
 use Rattle.search.proofs.best.best_plan.Tie as tie
 
 abbrev Inv-loop : tie.InvT-loop
-Inv-loop kind left right rules first second third a f list end best₀ i₀ best i = (i ≤ end) × Picks (tableOf a f kind left right rules first second third) list i best × Priced (tableOf a f kind left right rules first second third) best
+Inv-loop kind left right rules first second third a f list last end best₀ i₀ best i = (i ≤ end) × Picks (tableOf a f kind left right rules first second third) list i best × Priced (tableOf a f kind left right rules first second third) best
 
 abbrev μ-loop : tie.MeasureT-loop
-μ-loop kind left right rules first second third a f list end best₀ i₀ best i = end - i
+μ-loop kind left right rules first second third a f list last end best₀ i₀ best i = end - i
 
 power-requires : tie.Need-power-requires Inv-loop μ-loop
-power-requires c κs = omega (arith, c .before .before .before .before .before .before .before .before .pre .gates .switches)
+power-requires c κs = omega (arith, c .before .before .before .before .before .before .before .before .pre .0 .gates .switches)
 
 loop-holds : tie.Need-loop-holds Inv-loop μ-loop
 loop-holds c =
@@ -23,7 +23,7 @@ loop-holds c =
     (search needs, picks-none t (a .list .now), tt)
 
 with-plan-requires : tie.Need-with-plan-requires Inv-loop μ-loop
-with-plan-requires c κs = (c .before .before .before .before .before .before .before .before .before .before .before .pre, c .before .loop .inv .2)
+with-plan-requires c κs = (c .before .before .before .before .before .before .before .before .before .before .before .pre .0, c .before .before .before .before .before .before .before .before .before .before .before .pre .1, c .before .loop .inv .2, rw (c .before .before .power .ensures) at (c .loop-test .taken))
 
 add-i : tie.Need-add-i Inv-loop μ-loop
 add-i c = search needs

@@ -1,25 +1,28 @@
 use Prim.Native.Nat.{_-_, _<_}
 use native.Mathlib.Omega.{arith}
+use mathlib.Core.List.{[]}
 use mathlib.Core.Path.{refl, sym, subst}
 use lib.ListN.{length, take, length-set}
 use lib.Seq.{length-take-le}
 use borrow.Author.Needs.{needs}
 use Rattle.search.specs.Table.{tableOf}
-use Rattle.search.specs.laws.Steps.{Stepped, Kept, kept-none, kept-more, Onward, on-start, on-more, on-done, on-full}
+use Rattle.search.specs.laws.Steps.{Fails, none-fails, Stepped, Kept, kept-none, kept-more, listed-more, Onward, on-start, on-more, on-done, on-full}
 use Rattle.search.proofs.run.run_rounds.Statement.{statement}
 use Rattle.search.proofs.run.run_rounds.Tie as tie
 
 abbrev Inv-loop : tie.InvT-loop
-Inv-loop kind left right rules first second third a f list₀ n₀ list n = Kept list₀ list n × Onward (tableOf a f kind left right rules first second third) list₀ list n
+Inv-loop kind left right rules first second third a f list₀ n₀ last₀ list n last =
+    let t = tableOf a f kind left right rules first second third in
+    Kept list₀ list n × Onward t list₀ list n × Fails t (take n list) last
 
 abbrev μ-loop : tie.MeasureT-loop
-μ-loop kind left right rules first second third a f list₀ n₀ list n = length list - n
+μ-loop kind left right rules first second third a f list₀ n₀ last₀ list n last = length list - n
 
 loop-holds : tie.Need-loop-holds Inv-loop μ-loop
 loop-holds c =
     let a = c .before .before .before .before .before .before .before .before .args in
     let t = tableOf (a .a) (a .f) (a .kind .now) (a .left .now) (a .right .now) (a .rules .now) (a .first .now) (a .second .now) (a .third .now) in
-    (kept-none (a .list .now), on-start t (a .list .now))
+    (kept-none (a .list .now), on-start t (a .list .now), none-fails t [])
 
 slice-reshare-prefix-round : tie.Need-slice-reshare-prefix-round Inv-loop μ-loop
 slice-reshare-prefix-round c = omega (arith, c .loop .inv .0 .fits)
@@ -28,7 +31,7 @@ slice-aggregate-round : tie.Need-slice-aggregate-round Inv-loop μ-loop
 slice-aggregate-round c = sym (length-take-le _ _ (c .before .loop .inv .0 .fits))
 
 round-requires : tie.Need-round-requires Inv-loop μ-loop
-round-requires c κs = search needs
+round-requires c κs = (c .before .before .before .before .before .before .before .before .before .before .pre, c .before .loop .inv .2)
 
 enum-known-step : tie.Need-enum-known-step Inv-loop μ-loop
 enum-known-step c = search needs
@@ -56,16 +59,23 @@ returns-2 c =
     let t = tableOf (a .a) (a .f) (a .kind .now) (a .left .now) (a .right .now) (a .rules .now) (a .first .now) (a .second .now) (a .third .now) in
     let s = c .before .before .before .before .before .before .loop in
     let e = c .before .before .step2 .given .1 in
-    on-full t (a .list .now) (s .list) (s .n) (s .inv .0) (s .inv .1) _ _ refl refl refl (subst (Stepped t (take (s .n) (s .list))) e (c .before .before .before .before .round .ensures)) (c .if1 .taken)
+    on-full t (a .list .now) (s .list) (s .n) (s .inv .0) (s .inv .1) _ _ refl refl refl (subst (Stepped t (take (s .n) (s .list))) e (c .before .before .before .before .round .ensures) .0) (c .if1 .taken)
 
+-- a list that can be lent takes fewer than 2^63 bytes
 mul-list : tie.Need-mul-list Inv-loop μ-loop
-mul-list c = search needs
+mul-list c =
+    let room = c .before .before .before .before .before .before .before .before .before .before .before .before .before .before .before .good .1 .1 .1 .1 .1 .1 .1 .1 .1 .0 in
+    let k = c .before .before .before .before .before .before .loop .inv .0 in
+    omega (arith, room, k .fits, k .same)
 
 slice-write-list : tie.Need-slice-write-list Inv-loop μ-loop
 slice-write-list c = omega (arith, c .before .before .before .before .before .before .loop .inv .0 .fits)
 
 add-n : tie.Need-add-n Inv-loop μ-loop
-add-n c = search needs
+add-n c =
+    let room = c .before .before .before .before .before .before .before .before .before .before .before .before .before .before .before .good .1 .1 .1 .1 .1 .1 .1 .1 .1 .0 in
+    let k = c .before .before .before .before .before .before .loop .inv .0 in
+    omega (arith, room, k .fits, k .same)
 
 loop-less : tie.Need-loop-less Inv-loop μ-loop
 loop-less c = simp length-set (omega (arith, c .before .before .before .before .before .before .loop .inv .0 .fits))
@@ -76,9 +86,11 @@ loop-again c =
     let t = tableOf (a .a) (a .f) (a .kind .now) (a .left .now) (a .right .now) (a .rules .now) (a .first .now) (a .second .now) (a .third .now) in
     let s = c .before .before .before .before .before .before .loop in
     let e = c .before .before .step2 .given .1 in
-    let h : s .n < length (s .list) = omega (arith, s .inv .0 .fits) in (
+    let h : s .n < length (s .list) = omega (arith, s .inv .0 .fits) in
+    let m = subst (Stepped t (take (s .n) (s .list))) e (c .before .before .before .before .round .ensures) in (
       kept-more (a .list .now) (s .list) (s .n) _ h (s .inv .0),
-      on-more t (a .list .now) (s .list) (s .n) (s .inv .0) (s .inv .1) _ (subst (Stepped t (take (s .n) (s .list))) e (c .before .before .before .before .round .ensures)) h,
+      on-more t (a .list .now) (s .list) (s .n) (s .inv .0) (s .inv .1) _ (m .0) h,
+      rw (listed-more (s .list) (s .n) _ h) (m .1),
     )
 
 pub run-rounds-spec : {M : Type 1} → statement M

@@ -2,7 +2,7 @@ use native.Mathlib.Omega.{arith}
 use mathlib.Core.Path.{_≡_, sym}
 use lib.ListN.{length}
 use lib.Seq.{length-take-le}
-use Rattle.search.specs.laws.Steps.{distinct-lent}
+use Rattle.search.specs.laws.Steps.{none-fails, distinct-lent}
 use borrow.Author.Needs.{needs}
 use Rattle.search.proofs.sheets.short_run.Statement.{statement}
 use Rattle.search.proofs.sheets.short_run.Tie as tie
@@ -50,8 +50,10 @@ best-plan-requires : tie.Need-best-plan-requires
 best-plan-requires c κs =
     let s = c .before .before .before .before .before .before .before .before .before .before .before .before .before .before .before in
     let d = c .before .before .before .before .before .before .distinct in
-    let a = s .args in
-    distinct-lent (a .a) (a .f) (a .kind .now) (a .left .now) (a .right .now) (a .rules .now) (a .first .now) (a .second .now) (a .third .now) (d .result) (s .pre) (d .ensures .0) (d .ensures .1) (slice-aggregate-best-plan (c .before .before)) (slice-aggregate-best-plan-2 (c .before)) (slice-aggregate-best-plan-3 c)
+    let a = s .args in (
+      distinct-lent (a .a) (a .f) (a .kind .now) (a .left .now) (a .right .now) (a .rules .now) (a .first .now) (a .second .now) (a .third .now) (d .result) (s .pre) (d .ensures .0) (d .ensures .1) (slice-aggregate-best-plan (c .before .before)) (slice-aggregate-best-plan-2 (c .before)) (slice-aggregate-best-plan-3 c),
+      none-fails _ _,
+    )
 
 returns : tie.Need-returns
 returns c = rw (c .before .before .before .before .before .before .before .distinct .ensures .1) at (c .best-plan .ensures)
