@@ -12,10 +12,10 @@ enum-known-best : tie.Need-enum-known-best
 enum-known-best c = search needs
 
 returns : tie.Need-returns
-returns c = cc
+returns c = rw (c .before .enum-told .given .1) (c .refused .ensures)
 
 returns-2 : tie.Need-returns-2
-returns-2 c = cc
+returns-2 c = rw (c .before .best .given .1)
 
 pub best-outcome-spec : {M : Type 1} → statement M
 best-outcome-spec =

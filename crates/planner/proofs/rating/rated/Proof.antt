@@ -9,10 +9,10 @@ enum-known-missed : tie.Need-enum-known-missed
 enum-known-missed c = search needs
 
 returns : tie.Need-returns
-returns c = cc
+returns c = rw (c .enum-told .given .1)
 
 returns-2 : tie.Need-returns-2
-returns-2 c = cc
+returns-2 c = rw (c .before .missed .given .1)
 
 pub rated-spec : {M : Type 1} → statement M
 rated-spec = tie.close (tie.spec enum-told enum-known-missed returns returns-2)
