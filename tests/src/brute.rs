@@ -310,6 +310,7 @@ pub fn refused_listing(Refusal { number, place }: Refusal) -> String {
 mod tests {
     use super::*;
     use crate::generate::sheet;
+    use crate::SAMPLE_LISTING;
 
     const E3: &str = "H 2 2; O 1 2; O 3 4; O 5 6; R 7; W -1; W -2; Z 7";
     const E4: &str = "H 0 1; R 1; Z 2";
@@ -375,16 +376,7 @@ mod tests {
         assert_eq!(answer(E3, 9), plan(1, 1, &[0]));
         assert_eq!(answer(E3, 1), plan(1, 1, &[0]));
         assert_eq!(answer(E3, 0), no_room(&[]));
-        let printed = "\
-A    0    0    1
-S    1    0    0
-S    2    1    0
-W    1    1    0
-W    2    0    0
-F    1    0    0
-Z    6    0    0
-";
-        assert_eq!(listing(&sheet(E3)), printed);
+        assert_eq!(listing(&sheet(E3)), SAMPLE_LISTING);
     }
 
     #[test]

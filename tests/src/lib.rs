@@ -8,3 +8,26 @@ pub mod options;
 pub mod oracle;
 pub mod planning;
 pub mod process;
+
+/// The sample sheet of docs/FORMAT.md.
+pub const SAMPLE: &str = "\
+H    2    2    0
+O    1    2    0
+O    3    4    0
+O    5    6    0
+R    7    0    0
+W   -1    0    0
+W   -2    0    0
+Z    7    0    0
+";
+
+/// What the program prints for it.
+pub const SAMPLE_LISTING: &str = "\
+A    0    0    1
+S    1    0    0
+S    2    1    0
+W    1    1    0
+W    2    0    0
+F    1    0    0
+Z    6    0    0
+";

@@ -16,6 +16,7 @@ use planner_tests::generate::{sheet, string, RECIPES};
 use planner_tests::options;
 use planner_tests::oracle::{read, Refusal, Sheet, LITERALS, MAX_GATES, MAX_RULES, MAX_WISHES};
 use planner_tests::process::difference;
+use planner_tests::SAMPLE;
 
 /// Strings of each seed, unless --count says otherwise.
 const COUNT: u64 = 6_400;
@@ -257,16 +258,6 @@ fn examples() -> Vec<Example> {
     let refused = |name, bytes, number, place| {
         example(name, bytes, &format!("{number} {place}\n0 0 0 0 0\n"))
     };
-    let sample = "\
-H    2    2    0
-O    1    2    0
-O    3    4    0
-O    5    6    0
-R    7    0    0
-W   -1    0    0
-W   -2    0    0
-Z    7    0    0
-";
     let sample_tables = "0 0\n2 2 3 1 2\n79 1 2\n79 3 4\n79 5 6\n7\n3 0 0\n5 0 0\n";
 
     let lines = |gates: usize, rules: usize, wishes: usize| {
@@ -282,7 +273,7 @@ Z    7    0    0
 
     vec![
         refused("E1, the empty sheet", vec![], 1, 0),
-        example("E3, the sample sheet", sample.into(), sample_tables),
+        example("E3, the sample sheet", SAMPLE.into(), sample_tables),
         example(
             "E11, 20 switches and 16 faults",
             sheet("H 20 16; Z 1"),

@@ -212,6 +212,7 @@ fn take(sheet: &mut Sheet, letter: u8, fields: &[i32; FIELDS]) {
 mod tests {
     use super::*;
     use crate::generate::sheet;
+    use crate::SAMPLE;
 
     fn refused(bytes: &[u8]) -> (u32, usize) {
         match read(bytes) {
@@ -241,20 +242,10 @@ mod tests {
 
     #[test]
     fn e3_sample() {
-        let written = "\
-H    2    2    0
-O    1    2    0
-O    3    4    0
-O    5    6    0
-R    7    0    0
-W   -1    0    0
-W   -2    0    0
-Z    7    0    0
-";
-        assert_eq!(written.len(), 136);
+        assert_eq!(SAMPLE.len(), 136);
         assert_eq!(
             sheet("H 2 2; O 1 2; O 3 4; O 5 6; R 7; W -1; W -2; Z 7"),
-            written.as_bytes()
+            SAMPLE.as_bytes()
         );
         let tables = Sheet {
             switches: 2,
@@ -263,7 +254,7 @@ Z    7    0    0
             rules: vec![7],
             wishes: vec![vec![-1], vec![-2]],
         };
-        assert_eq!(read(written.as_bytes()), Ok(tables));
+        assert_eq!(read(SAMPLE.as_bytes()), Ok(tables));
     }
 
     #[test]

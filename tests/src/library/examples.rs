@@ -3,6 +3,7 @@
 use planner_tests::brute::{listing, Found, Planner, Rated};
 use planner_tests::generate::sheet;
 use planner_tests::oracle::{read, Refusal};
+use planner_tests::SAMPLE_LISTING;
 
 use crate::check::Check;
 
@@ -22,15 +23,6 @@ struct Example {
 }
 
 const E3: &str = "H 2 2; O 1 2; O 3 4; O 5 6; R 7; W -1; W -2; Z 7";
-const E3_LISTING: &str = "\
-A    0    0    1
-S    1    0    0
-S    2    1    0
-W    1    1    0
-W    2    0    0
-F    1    0    0
-Z    6    0    0
-";
 const E4: &str = "H 0 1; R 1; Z 2";
 const E7: &str = "H 1 1; N 1; N 2; A 1 2; A 3 4; O 5 6; R 7; Z 7";
 
@@ -88,7 +80,7 @@ fn examples() -> Vec<Example> {
         answer("E2, the smallest sheet", "H; Z 1", 3, plan(0, 0), &[]),
         answer("E3, the sample", E3, 3, plan(1, 1), &[0]),
         answer("E3, room for any list", E3, 65_536, plan(1, 1), &[0]),
-        example("E3, listing", sheet(E3), Job::Listing(E3_LISTING)),
+        example("E3, listing", sheet(E3), Job::Listing(SAMPLE_LISTING)),
         answer("E4, no plan", E4, 3, refused(8, 0), &[0]),
         answer("E5, no plan and no room", E4, 0, refused(9, 0), &[]),
         answer(
