@@ -13,8 +13,7 @@ ghost use Rattle.circuit.specs.Lent.{Gates, circuit};
 ghost use Rattle.search.specs.Table.{table, tableOf, Lent, bestOf, Priced};
 ghost use Rattle.search.specs.laws.Steps.{failsOf, Fails, improvesOf};
 
-// Whether the plan passes each pattern of the list; left at the first that it does not. The patterns are
-// tried from the last: those were found by plans that passed all the others, and fewer plans pass them.
+// Whether the plan passes each pattern of the list; left at the first that it does not.
 fn passes_all(
     kind: &[u8],
     left: &[u32],
@@ -28,12 +27,12 @@ fn passes_all(
     requires { ⌜ Gates a f (now kind) (now left) (now right) × All (Among (a + f + length (now kind))) (now rules) ⌝ }
     ensures { λ r. ⌜ ((ws : List Clause) → r ≡ passesAll (table (circuit a f (now (kind .entry)) (now (left .entry)) (now (right .entry)) (now (rules .entry))) ws) (plan .0) (now (list .entry))) ⌝ }
 {
-    let mut i = list.len();
-    while 0 < i {
-        i -= 1;
+    let mut i = 0;
+    while i < list.len() {
         if !circuit::rule::passes(kind, left, right, rules, a, f, plan, Pattern(list[i])) {
             return false;
         }
+        i += 1;
     }
     true
 }

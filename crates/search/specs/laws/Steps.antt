@@ -10,8 +10,8 @@ use mathlib.Core.Path.{_≡_, refl, sym, ap, subst, _∙_}
 use lib.Dec.{eqb, leb, ltb}
 use lib.ListN.{length, getD, take, drop, set, length-set, take-append-drop}
 use lib.Seq.{length-take-le, take-suc-set, drop-set-lt, drop-drop}
-use Rattle.scope.specs.Sheet.{Clause, Sheet, mostWishes, All, Wish}
 use borrow.Author.Tests.{eqb-true, leb-true, ltb-true, not-true}
+use Rattle.scope.specs.Sheet.{Clause, Sheet, mostWishes, All, Wish}
 use Rattle.scope.specs.Meaning.{passes, distinct}
 use Rattle.scope.specs.Pick.{keep, pick}
 use Rattle.scope.specs.Rule.{Task, Run, passesAll, best, missed, missedBy, next, short, rule}
@@ -41,7 +41,7 @@ passes-not t p l i h e = go (passesAll t p l) refl
     go true f = clash (passes-at t p l f i h) e
     go false f = refl
 
-pub passes-front : (t : Task) (p : ℕ) (l : List ℕ) (q : ℕ) → passesAll t p (l ++ q ∷ []) ≡ true → (passesAll t p l ≡ true) × (t .passes p q ≡ true)
+passes-front : (t : Task) (p : ℕ) (l : List ℕ) (q : ℕ) → passesAll t p (l ++ q ∷ []) ≡ true → (passesAll t p l ≡ true) × (t .passes p q ≡ true)
 passes-front t p [] q e = (refl, both (t .passes p q) true e .0)
 passes-front t p (x ∷ l) q e =
     let (a, b) = both (t .passes p x) (passesAll t p (l ++ q ∷ [])) e in
@@ -50,7 +50,7 @@ passes-front t p (x ∷ l) q e =
 
 -- ---- plans that are known to fail
 
--- the candidate b, and every plan that is better: plan n, of cost c
+-- whether plan n, of cost c, is the candidate b or better than it
 unfoldable pub failsOf : Best → ℕ → ℕ → Bool
 failsOf Nothing c n = false
 failsOf (At p least) c n = cond (eqb c least) (leb n (p .0)) (ltb c least)
