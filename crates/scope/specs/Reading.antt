@@ -8,7 +8,7 @@ use lib.Dec.{eqb, leb, ltb}
 use lib.ListN.{length, getD, take, drop}
 use Rattle.scope.specs.Sheet.{Number, number, plus, Clause, Gate, Sheet, sheet, points, fieldSize, field, fits, Letter, H, N, A, O, R, W, Z, letterByte, Line, line, mostSwitches, mostFaults, mostGates, mostRules, mostWishes, mostLiterals}
 
--- ---- a line read: guess a number from the bytes, and compare what it prints; `line-iff` (Claims) says all of it
+-- ---- a line read: guess a number from the bytes, and compare what it prints; `line-read` (Claims) says all of it
 
 abbrev pub same : List ℕ → List ℕ → Bool
 same [] [] = true
