@@ -18,8 +18,7 @@
  *             0 to 2^f - 1; without any fault there is the one pattern 0.
  *   passes    A plan passes a pattern when all rules are true under the two.
  *   sound     A plan is sound when it passes every pattern.
- *   cost      How many wishes a plan breaks; one with the same literals as an earlier one is left
- *             out.
+ *   cost      How many wishes a plan breaks. A wish counts every time it is written.
  *   better    A plan is better than another if its cost is lower or, at equal cost, its number is
  *             smaller.
  *   list      The patterns that the search needed, in the order in which it met them. It starts

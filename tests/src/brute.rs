@@ -3,7 +3,6 @@
 //! it, so it shares no code and no method with that one.
 
 use std::cell::Cell;
-use std::collections::BTreeSet;
 
 use crate::oracle::{read, Refusal, Sheet, COLUMNS};
 
@@ -75,8 +74,6 @@ pub struct Run {
 /// An accepted sheet, ready for the jobs.
 pub struct Planner {
     pub sheet: Sheet,
-    /// The wishes as a set of sets of literals: what the cost counts.
-    clauses: Vec<Vec<i32>>,
     /// Every plan, a better one before a worse one.
     ranked: Vec<u32>,
     /// What is known already of plans passing patterns, a row for each plan; empty for large sheets.
@@ -88,13 +85,7 @@ const MOST_DIGITS: u32 = 22;
 
 impl Planner {
     pub fn new(sheet: Sheet) -> Planner {
-        let sets: BTreeSet<BTreeSet<i32>> = sheet
-            .wishes
-            .iter()
-            .map(|wish| wish.iter().copied().collect())
-            .collect();
         let mut planner = Planner {
-            clauses: sets.into_iter().map(Vec::from_iter).collect(),
             ranked: Vec::new(),
             known: Vec::new(),
             sheet,
@@ -165,8 +156,10 @@ impl Planner {
         wish.iter().any(|literal| on(literal) == (*literal > 0))
     }
 
+    /// The broken wishes, each as often as it is written.
     pub fn cost(&self, plan: u32) -> u32 {
-        let broken = self.clauses.iter().filter(|wish| !self.keeps(plan, wish));
+        let wishes = self.sheet.wishes.iter();
+        let broken = wishes.filter(|wish| !self.keeps(plan, wish));
         broken.count() as u32
     }
 
@@ -401,7 +394,7 @@ mod tests {
 
     #[test]
     fn e8() {
-        assert_eq!(answer("H 1 0; R 1; W -1; W -1; Z 4", 4), plan(1, 1, &[0]));
+        assert_eq!(answer("H 1 0; R 1; W -1; W -1; Z 4", 4), plan(1, 2, &[0]));
     }
 
     #[test]
@@ -481,13 +474,14 @@ mod tests {
         assert_eq!([0, 1, 2, 3].map(|p| planner.cost(p)), [1, 1, 1, 2]);
     }
 
-    /// Wishes are sets: order and repetition mean nothing.
+    /// A wish counts every time it is written, in whatever order; a literal that is repeated in it
+    /// means nothing.
     #[test]
-    fn wishes_as_sets() {
+    fn repeated_wishes() {
         let repeats = planner("H 3 0; W 1 2 3; W 3 1 2; W 1 1 2; W 2 1; W 2; W 2 2 2; W; W; Z 9");
-        // Sets: {1 2 3}, {1 2}, {2} and {}.
-        assert_eq!(repeats.cost(0), 4);
-        assert_eq!(repeats.cost(0b010), 1);
+        assert_eq!(repeats.cost(0), 8);
+        assert_eq!(repeats.cost(0b010), 2);
+        assert_eq!(repeats.cost(0b100), 4);
         let never_broken = planner("H 1 0; W 1 -1; W -1 1 1; W -1 -1; Z 4");
         assert_eq!([0, 1].map(|p| never_broken.cost(p)), [0, 1]);
     }
@@ -513,7 +507,7 @@ mod tests {
         let run = planner.run(PROGRAM_ROOM);
         assert_eq!(run.list, [0, 2, 8, 32]);
         assert_eq!(run.end, End::Plan(47));
-        assert_eq!(planner.cost(47), 2);
+        assert_eq!(planner.cost(47), 3);
         let no_plan = listing(include_bytes!("../../examples/no-plan.sheet"));
         let printed = "A    8    0    0\nF    1    1    0\nF    2    0    0\nZ    3    0    0\n";
         assert_eq!(no_plan, printed);

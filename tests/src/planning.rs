@@ -505,9 +505,12 @@ pub fn shuffle<T>(r: &mut Random, items: &mut [T]) {
     }
 }
 
-/// The same set of literals in another order, perhaps with one of them repeated.
-fn same_set(r: &mut Random, wish: &[i32]) -> Vec<i32> {
+/// The wish once more: as it was written, or in any order and perhaps with one literal repeated.
+fn again(r: &mut Random, wish: &[i32]) -> Vec<i32> {
     let mut literals = wish.to_vec();
+    if r.one_in(3) {
+        return literals;
+    }
     if !literals.is_empty() && literals.len() < LITERALS && r.one_in(2) {
         literals.push(r.pick(wish));
     }
@@ -528,7 +531,7 @@ fn a_literal(r: &mut Random, switches: i32) -> i32 {
 fn a_wish(r: &mut Random, switches: i32, earlier: &[Vec<i32>]) -> Vec<i32> {
     if !earlier.is_empty() && r.one_in(4) {
         let k = r.below(earlier.len());
-        return same_set(r, &earlier[k]);
+        return again(r, &earlier[k]);
     }
     if switches == 0 || r.one_in(24) {
         return Vec::new();
@@ -580,10 +583,10 @@ fn wishes(r: &mut Random, switches: i32) -> Vec<Vec<i32>> {
         shuffle(r, &mut made);
     }
     if r.one_in(25) && !made.is_empty() {
-        // A full sheet of wishes, whose last ones matter.
+        // A full sheet of wishes, the first of them many times.
         for _ in made.len()..MAX_WISHES {
-            let again = same_set(r, &made[0]);
-            made.insert(0, again);
+            let first = again(r, &made[0]);
+            made.insert(0, first);
         }
     }
     made.truncate(MAX_WISHES);
@@ -770,6 +773,7 @@ fn spoilt(r: &mut Random) -> Vec<u8> {
 mod tests {
     use super::*;
     use crate::brute::{End, Planner, Run};
+    use std::collections::BTreeSet;
 
     /// More rounds than any sheet of the classes needs.
     const LIMIT: usize = 2_000;
@@ -906,8 +910,10 @@ mod tests {
     #[test]
     fn wrong_readings_show() {
         let names = [
-            "repeated wishes count",
-            "wishes in another order count",
+            "a repeated wish left out",
+            "a repeated wish left out if written in the same order",
+            "a repeated wish left out unless written in the same order",
+            "a wish counted for each of its literals",
             "the larger plan at equal cost",
             "the first sound plan",
             "faults tried singly",
@@ -917,7 +923,7 @@ mod tests {
             "listed patterns forgotten",
             "the largest pattern listed",
         ];
-        let mut shown = [0; 10];
+        let mut shown = [0; 12];
         for planner in accepted(2, 6_000) {
             let Run { list, end } = planner.run(LIMIT);
             let right = match end {
@@ -930,26 +936,35 @@ mod tests {
                 .chain([0])
                 .collect();
             let wishes = &planner.sheet.wishes;
-            let broken = |plan, k: usize| !planner.keeps(plan, &wishes[k]);
-            let lines = |plan| (0..wishes.len()).filter(|&k| broken(plan, k)).count();
-            let exact = |plan| {
-                let first = |k: usize| !wishes[..k].contains(&wishes[k]);
-                (0..wishes.len())
-                    .filter(|&k| first(k) && broken(plan, k))
-                    .count()
+            // The cost if a broken wish k counts this often.
+            let counted = |times: &dyn Fn(usize) -> usize, plan| -> usize {
+                let broken = (0..wishes.len()).filter(|&k| !planner.keeps(plan, &wishes[k]));
+                broken.map(times).sum()
             };
+            let set = |wish: &[i32]| wish.iter().copied().collect::<BTreeSet<i32>>();
+            let same_set = |k: usize| wishes[..k].iter().any(|w| set(w) == set(&wishes[k]));
+            let same_order = |k: usize| wishes[..k].contains(&wishes[k]);
+            let wrong_costs: [&dyn Fn(usize) -> usize; 4] = [
+                &|k| usize::from(!same_set(k)),
+                &|k| usize::from(!same_order(k)),
+                &|k| usize::from(!same_set(k) || same_order(k)),
+                &|k| wishes[k].len(),
+            ];
             let cost = |plan| (planner.cost(plan), plan);
             let strike = |plan: u32| {
                 let rules = &planner.sheet.rules;
                 rules.iter().all(|&p| struck(&planner, plan, p, true))
             };
-            let costs = |plan: Option<u32>, cost: usize| plan.map(|p| (p, cost));
-            let right_cost = right.map_or(0, |plan| planner.cost(plan) as usize);
-            let with_lines = best_by(&planner, &every, |p| (lines(p), p));
-            let with_exact = best_by(&planner, &every, |p| (exact(p), p));
+            let right_cost = right.map(|plan| (planner.cost(plan) as usize, plan));
+            let [sets, orders, others, literals] = wrong_costs.map(|times| {
+                let best = best_by(&planner, &every, |p| (counted(times, p), p));
+                best.map(|plan| (counted(times, plan), plan)) != right_cost
+            });
             let wrong = [
-                costs(with_lines, with_lines.map_or(0, lines)) != costs(right, right_cost),
-                costs(with_exact, with_exact.map_or(0, exact)) != costs(right, right_cost),
+                sets,
+                orders,
+                others,
+                literals,
                 best_by(&planner, &every, |p| (planner.cost(p), u32::MAX - p)) != right,
                 best_by(&planner, &every, |p| p) != right,
                 best_by(&planner, &singly, cost) != right,

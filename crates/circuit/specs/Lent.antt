@@ -6,11 +6,10 @@ use mathlib.Core.List.{List, [], _∷_, _++_}
 use mathlib.Core.Option.{Option, none, some}
 use mathlib.Core.Path.{_≡_}
 use lib.Dec.{eqb}
-use lib.ListN.{length, take}
+use lib.ListN.{length}
 use Rattle.scope.specs.Sheet.{number, Clause, Gate, Sheet, sheet, mostSwitches, mostFaults, mostGates, mostWishes, All, Ordered, Wish}
 use Rattle.circuit.specs.declared.rule.Missed.{Missed}
 use Rattle.circuit.specs.declared.rule.Missed.the-variants.{Nothing, At}
-use Rattle.circuit.specs.declared.wish.Wishes.{Wishes}
 
 -- ---- three columns, a row for each index
 
@@ -74,7 +73,3 @@ pub record Clauses (a : ℕ) (first second third : List ℕ) : Type 0 where
 abbrev pub missedOf : Missed → Option ℕ
 missedOf Nothing = none
 missedOf (At p) = some (p .0)
-
--- the first `count` rows
-abbrev pub listed : Wishes → List Clause
-listed w = wishesOf (take (w .count) (w .first)) (take (w .count) (w .second)) (take (w .count) (w .third))

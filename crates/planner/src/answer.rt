@@ -5,6 +5,7 @@ use crate::outcome::Outcome;
 use crate::outcome::best_outcome;
 use crate::outcome::refused;
 use crate::rating::wide;
+use search::best::Best;
 use search::run::Run;
 ghost use mathlib.Core.Path.{_≡_};
 ghost use Rattle.scope.specs.Jobs.{firstHigh};
@@ -42,7 +43,7 @@ pub fn answer(s: &[u8], list: &mut [u32]) -> Outcome
     let g = wide(t.gates);
     let n = wide(t.rules);
     let w = wide(t.wishes);
-    let run = search::sheets::full_run(
+    let run = search::run::run_rounds(
         &kind[..g],
         &left[..g],
         &right[..g],
@@ -93,7 +94,7 @@ pub fn short_run(s: &[u8], patterns: &[u32]) -> Outcome
     let g = wide(t.gates);
     let n = wide(t.rules);
     let w = wide(t.wishes);
-    let best = search::sheets::short_run(
+    let best = search::best::best_plan(
         &kind[..g],
         &left[..g],
         &right[..g],
@@ -104,6 +105,7 @@ pub fn short_run(s: &[u8], patterns: &[u32]) -> Outcome
         t.switches,
         t.faults,
         patterns,
+        Best::Nothing,
     );
     best_outcome(best, 0)
 }

@@ -1,7 +1,7 @@
 -- What is claimed of the definitions, each claim with its proof. Assumes nothing.
-use Prim.Native.Nat.{ℕ, _≤_, _<_}
-use mathlib.Core.Bool.{true, false}
-use mathlib.Core.List.{List, []}
+use Prim.Native.Nat.{ℕ, _+_, _≤_, _<_}
+use mathlib.Core.Bool.{true, false, cond}
+use mathlib.Core.List.{List, [], _∷_, _++_}
 use mathlib.Core.Logic.{_↔_}
 use mathlib.Core.Option.{some}
 use mathlib.Core.Path.{_≡_}
@@ -9,7 +9,7 @@ use Rattle.scope.specs.Sheet.{Number, number, field, fits, Line, Clause,
 use Rattle.scope.specs.Reading.{fieldOf, lineOf, accepted, refused, read}
 use Rattle.scope.specs.Causes.{Cause, SheetRefusal}
 use lib.ListN.{length, getD, take}
-use Rattle.scope.specs.Meaning.{plans, patterns, sameSet, switchOn, kept, cost}
+use Rattle.scope.specs.Meaning.{plans, patterns, literalTrue, switchOn, kept, cost}
 use Rattle.scope.specs.Jobs.{task, answer, shortRun, rating}
 use Rattle.scope.specs.Demands.{list, Demand2, Demand3, ShortRun, Rates}
 use Rattle.scope.specs.Program.{outputRows}
@@ -19,7 +19,7 @@ use Rattle.scope.specs.laws.Lines.{Printed}
 use Rattle.scope.specs.laws.Refusals as refusals
 use Rattle.scope.specs.laws.Inverse as inverse
 use Rattle.scope.specs.laws.Wishes as wishes
-use Rattle.scope.specs.laws.Wishes.{In, Reordered}
+use Rattle.scope.specs.laws.Wishes.{In, Reordered, costs}
 use Rattle.scope.specs.laws.Picks.{Before}
 use Rattle.scope.specs.laws.Rules as rules
 use Rattle.scope.specs.laws.Rules.{lead}
@@ -54,10 +54,10 @@ refusal-number = refusals.cause-number
 
 -- ---- plans
 
--- of two wishes with the same set both are kept or both broken
-pub wishes-alike : (t : Sheet) (plan : ℕ) (u w : Clause) → sameSet u w ≡ true → kept t plan u ≡ kept t plan w
+-- a wish is kept exactly if one of its own literals is true
+pub kept-by : (t : Sheet) (plan : ℕ) (w : Clause) → (kept t plan w ≡ true) ↔ ((x : Number) × In x w × (literalTrue (switchOn t plan) x ≡ true))
 unfolding kept
-wishes-alike t plan = wishes.same-keeps (switchOn t plan)
+kept-by t plan = wishes.keeps-iff (switchOn t plan)
 
 -- one that holds k and -k is never broken, and one with no literal always
 pub both-kept : (t : Sheet) (plan k : ℕ) (w : Clause) → In (number false k) w → In (number true k) w → kept t plan w ≡ true
@@ -68,8 +68,15 @@ pub none-kept : (t : Sheet) (plan : ℕ) → kept t plan [] ≡ false
 unfolding kept
 none-kept t plan = wishes.none-kept (switchOn t plan)
 
+-- a broken wish costs 1, and wishes cost together what they cost apart: so one that is repeated counts every time
+pub wish-costs : (a f : ℕ) (gs : List Gate) (rs : List ℕ) (plan : ℕ) (w : Clause) → costs a f gs rs plan (w ∷ []) ≡ cond (kept (sheet a f gs rs []) plan w) 0 1
+wish-costs = wishes.cost-one
+
+pub wishes-cost : (a f : ℕ) (gs : List Gate) (rs : List ℕ) (plan : ℕ) (us ws : List Clause) → costs a f gs rs plan (us ++ ws) ≡ costs a f gs rs plan us + costs a f gs rs plan ws
+wishes-cost = wishes.cost-together
+
 -- the order of wishes does not count
-pub order-free : (a f : ℕ) (gs : List Gate) (rs : List ℕ) {ws us : List Clause} (plan : ℕ) → Reordered ws us → cost (sheet a f gs rs ws) plan ≡ cost (sheet a f gs rs us) plan
+pub order-free : (a f : ℕ) (gs : List Gate) (rs : List ℕ) (plan : ℕ) {ws us : List Clause} → Reordered ws us → costs a f gs rs plan ws ≡ costs a f gs rs plan us
 order-free = wishes.cost-order
 
 pub rating-claim : (s : List ℕ) (p : ℕ) (t : Sheet) → read fieldCount s ≡ accepted t → p < plans t → Rates t p (rating s p)

@@ -9,7 +9,7 @@ use lib.ListN.{replicate}
 use Rattle.scope.specs.Text.{bytes, lines}
 use Rattle.scope.specs.Sheet.{Gate, sheet, number, plus, fieldCount, decimal, field, fieldsBytes, All}
 use Rattle.scope.specs.Reading.{fieldOf, fieldsOf, letterOf, lineOf, zeros, literals, clause, rows, make, Read, accepted, refused, lineAt, testsAt, readFrom, read}
-use Rattle.scope.specs.Meaning.{bits, truths, truth, passes, keeps, sameSet, distinct, broken, switchOn, kept, cost}
+use Rattle.scope.specs.Meaning.{bits, truths, truth, passes, keeps, broken, switchOn, kept, cost}
 use Rattle.scope.specs.Pick.{pick}
 use Rattle.scope.specs.Rule.{best, missed, short, next, rule}
 use Rattle.scope.specs.Jobs.{Answer, Result, Rating, answered, refusal, found, answer, shortRun, rated, unrated, rating}
@@ -95,8 +95,12 @@ table =
     ∷ answers ("H    1    1    0" ∷ "R    1    0    0" ∷ "W   -1    0    0" ∷ "Z    3    0    0" ∷ []) room (answered (found 1 1 1) (0 ∷ 7 ∷ 7 ∷ 7 ∷ []))
     -- E7: the list is as long as there are plans, and patterns
     ∷ answers ("H    1    1    0" ∷ "N    1    0    0" ∷ "N    2    0    0" ∷ "A    1    2    0" ∷ "A    3    4    0" ∷ "O    5    6    0" ∷ "R    7    0    0" ∷ "Z    7    0    0" ∷ []) room (answered (refusal 8 0 2) (1 ∷ 0 ∷ 7 ∷ 7 ∷ []))
-    -- E8: a wish written twice counts once
-    ∷ answers ("H    1    0    0" ∷ "R    1    0    0" ∷ "W   -1    0    0" ∷ "W   -1    0    0" ∷ "Z    4    0    0" ∷ []) room (answered (found 1 1 1) (0 ∷ 7 ∷ 7 ∷ 7 ∷ []))
+    -- E8: a wish written twice counts twice
+    ∷ answers ("H    1    0    0" ∷ "R    1    0    0" ∷ "W   -1    0    0" ∷ "W   -1    0    0" ∷ "Z    4    0    0" ∷ []) room (answered (found 1 2 1) (0 ∷ 7 ∷ 7 ∷ 7 ∷ []))
+    -- also in another order
+    ∷ answers ("H    2    0    0" ∷ "R    1    0    0" ∷ "R    2    0    0" ∷ "W   -1   -2    0" ∷ "W   -2   -1    0" ∷ "Z    5    0    0" ∷ []) room (answered (found 3 2 1) (0 ∷ 7 ∷ 7 ∷ 7 ∷ []))
+    -- and with a literal repeated in it: counted once, the two would leave plan 1 the best
+    ∷ answers ("H    2    0    0" ∷ "O    1    2    0" ∷ "R    3    0    0" ∷ "W   -2    0    0" ∷ "W   -2   -2    0" ∷ "W   -1    0    0" ∷ "Z    6    0    0" ∷ []) room (answered (found 2 1 1) (0 ∷ 7 ∷ 7 ∷ 7 ∷ []))
     -- E9: a wish with no literal is always broken
     ∷ answers ("H    0    0    0" ∷ "W    0    0    0" ∷ "Z    2    0    0" ∷ []) room (answered (found 0 1 0) room)
     -- E10: short runs over no pattern, and over pattern 0
@@ -110,10 +114,10 @@ table =
     ∷ []
 
 pub table-holds : All Holds table
-unfolding answer shortRun rating read readFrom testsAt lineAt lineOf letterOf fieldsOf fieldOf field decimal rows zeros make literals clause rule next best missed short pick passes truth truths bits cost broken distinct sameSet keeps switchOn
-table-holds = (refl, (refl, (refl, (refl, (refl, (refl, (refl, (refl, (refl, (refl, (refl, (refl, (refl, (refl, (refl, tt)))))))))))))))
+unfolding answer shortRun rating read readFrom testsAt lineAt lineOf letterOf fieldsOf fieldOf field decimal rows zeros make literals clause rule next best missed short pick passes truth truths bits cost broken keeps switchOn
+table-holds = (refl, (refl, (refl, (refl, (refl, (refl, (refl, (refl, (refl, (refl, (refl, (refl, (refl, (refl, (refl, (refl, (refl, tt)))))))))))))))))
 
 -- ---- the program, on the sample
 pub printed : output (lines sample) ≡ lines ("A    0    0    1" ∷ "S    1    0    0" ∷ "S    2    1    0" ∷ "W    1    1    0" ∷ "W    2    0    0" ∷ "F    1    0    0" ∷ "Z    6    0    0" ∷ [])
-unfolding output outputRows rowsBytes fieldsBytes each answer read readFrom testsAt lineAt lineOf letterOf fieldsOf fieldOf field decimal rows zeros make literals clause rule next best missed short pick passes truth truths bits cost kept broken distinct sameSet keeps switchOn
+unfolding output outputRows rowsBytes fieldsBytes each answer read readFrom testsAt lineAt lineOf letterOf fieldsOf fieldOf field decimal rows zeros make literals clause rule next best missed short pick passes truth truths bits cost kept broken keeps switchOn
 printed = refl

@@ -1,6 +1,6 @@
 -- What a sheet means: the truth of points, when a plan passes a pattern, and what a plan costs. Assumes nothing.
 use Prim.Native.Nat.{ℕ, zero, suc, _-_, _/_, _%_, _^_}
-use mathlib.Core.Bool.{Bool, true, false, cond, not, Bool·beq, _&&_, _||_}
+use mathlib.Core.Bool.{Bool, true, false, cond, not, _&&_, _||_}
 use mathlib.Core.List.{List, [], _∷_, _++_}
 use lib.Dec.{eqb}
 use lib.ListN.{getD}
@@ -43,23 +43,7 @@ literalTrue v x = cond (x .minus) (not (v (x .size))) (v (x .size))
 unfoldable pub keeps : (ℕ → Bool) → Clause → Bool
 keeps v w = any (literalTrue v) w
 
--- clauses form sets
-abbrev pub sameLiteral : Number → Number → Bool
-sameLiteral x y = Bool·beq (x .minus) (y .minus) && eqb (x .size) (y .size)
-
-abbrev pub within : Clause → Clause → Bool
-within u w = all (λ x. any (sameLiteral x) w) u
-
-unfoldable pub sameSet : Clause → Clause → Bool
-sameSet u w = within u w && within w u
-
--- the clauses whose set none of the earlier ones has
-unfoldable pub distinct : List Clause → List Clause → List Clause
-distinct earlier [] = []
-distinct earlier (w ∷ ws) =
-    let rest : List Clause = distinct (w ∷ earlier) ws in
-    cond (any (sameSet w) earlier) rest (w ∷ rest)
-
+-- how many of these are broken, each counted every time it is written
 unfoldable pub broken : (ℕ → Bool) → List Clause → ℕ
 broken v [] = 0
 broken v (w ∷ ws) = cond (keeps v w) (broken v ws) (suc (broken v ws))
@@ -85,6 +69,6 @@ module _ (t : Sheet) where
   unfoldable pub kept : (plan : ℕ) → Clause → Bool
   kept plan = keeps (switchOn plan)
 
-  -- the broken wishes, repeats left out
+  -- the broken wishes
   unfoldable pub cost : (plan : ℕ) → ℕ
-  cost plan = broken (switchOn plan) (distinct [] (t .wishes))
+  cost plan = broken (switchOn plan) (t .wishes)

@@ -1,30 +1,26 @@
 -- The table of plans and patterns that lent columns make, and what the answers of the search say. Assumes nothing.
-use Prim.Native.Nat.{ℕ, _+_, _^_, _≤_}
+use Prim.Native.Nat.{ℕ, _+_, _≤_}
 use mathlib.Core.Bool.{cond}
 use mathlib.Core.List.{List, []}
 use mathlib.Core.Option.{Option, none, some}
 use mathlib.Core.Path.{_≡_}
 use lib.ListN.{length, take}
 use Rattle.scope.specs.Sheet.{Clause, Sheet, All, Among}
-use Rattle.scope.specs.Meaning.{passes, switchOn, distinct, broken}
+use Rattle.scope.specs.Meaning.{plans, patterns, passes, cost}
 use Rattle.scope.specs.Rule.{Task, Verdict, noRoom, verdictOf, run, rule}
 use Rattle.scope.specs.Jobs.{over}
-use Rattle.circuit.specs.Lent.{Gates, Clauses, circuit, wishesOf}
+use Rattle.circuit.specs.Lent.{Gates, Clauses, circuit, wishesOf, wishSheet}
 use Rattle.search.specs.declared.best.Best.{Best}
 use Rattle.search.specs.declared.best.Best.the-variants.{Nothing, At}
 use Rattle.search.specs.declared.run.Run.{Run}
 
--- The plans and patterns of a sheet, where a plan costs what it breaks of these wishes.
+-- The plans and patterns of a sheet, with these wishes.
 abbrev pub table : Sheet → List Clause → Task
-table t ws = record { passes = passes t; cost = λ p. broken (switchOn t p) ws; plans = 2 ^ t .switches; patterns = 2 ^ t .faults }
+table t ws = record { passes = passes t; cost = cost (wishSheet (t .switches) ws); plans = plans t; patterns = patterns t }
 
 -- That of lent columns.
 abbrev pub tableOf : (a f : ℕ) (kind left right rules first second third : List ℕ) → Task
 tableOf a f kind left right rules first second third = table (circuit a f kind left right rules) (wishesOf first second third)
-
--- The same for a sheet's own wishes: a plan costs what it breaks of them, repeats left out.
-abbrev pub sheetTable : (a f : ℕ) (kind left right rules first second third : List ℕ) → Task
-sheetTable a f kind left right rules first second third = table (circuit a f kind left right rules) (distinct [] (wishesOf first second third))
 
 -- columns that a sheet may have
 pub record Lent (a f : ℕ) (kind left right rules first second third : List ℕ) : Type 0 where

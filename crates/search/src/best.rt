@@ -89,7 +89,7 @@ fn with_plan(
     requires { ⌜ Lent a f (now kind) (now left) (now right) (now rules) (now first) (now second) (now third) × Fails (tableOf a f (now kind) (now left) (now right) (now rules) (now first) (now second) (now third)) (now list) last × Priced (tableOf a f (now kind) (now left) (now right) (now rules) (now first) (now second) (now third)) best × (plan .0 < 2 ^ a) ⌝ }
     ensures { λ r. ⌜ (bestOf r ≡ keep (tableOf a f (now (kind .entry)) (now (left .entry)) (now (right .entry)) (now (rules .entry)) (now (first .entry)) (now (second .entry)) (now (third .entry)) .cost) (passesAll (tableOf a f (now (kind .entry)) (now (left .entry)) (now (right .entry)) (now (rules .entry)) (now (first .entry)) (now (second .entry)) (now (third .entry))) (plan .0) (now (list .entry))) (plan .0) (bestOf best)) × Priced (tableOf a f (now (kind .entry)) (now (left .entry)) (now (right .entry)) (now (rules .entry)) (now (first .entry)) (now (second .entry)) (now (third .entry))) r ⌝ }
 {
-    let cost = circuit::wish::broken(first, second, third, a, plan);
+    let cost = circuit::wish::cost(first, second, third, a, plan);
     if known_to_fail(last, cost, plan) {
         return best;
     }

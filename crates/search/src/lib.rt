@@ -3,4 +3,3 @@
 // with the list rule of the crate `scope`, over the table that the lent columns make.
 pub mod best;
 pub mod run;
-pub mod sheets;

@@ -1,19 +1,19 @@
 -- Columns, row by row. Assumes nothing.
-use Prim.Native.Nat.{ℕ, zero, suc, _+_, _≤_, _<_}
+use Prim.Native.Nat.{ℕ, zero, suc, _+_, _<_}
 use Prim.Native.Char.{code}
 use native.Mathlib.Nat.{add-zero}
 use native.Mathlib.Numerals.{add-one}
 use native.Mathlib.Omega.{arith}
 use mathlib.Core.Bool.{Bool, true, false}
-use mathlib.Core.List.{List, [], _∷_, _++_}
+use mathlib.Core.List.{List, [], _∷_}
 use mathlib.Core.Logic.{_≢_}
-use mathlib.Core.Path.{_≡_, refl, sym, ap, subst, _∙_}
+use mathlib.Core.Path.{_≡_, refl, ap, subst, _∙_}
 use lib.Dec.{eqb}
-use lib.ListN.{length, getD, take, drop, set}
-use lib.Seq.{length-take-le, drop-cons, take-suc-set}
+use lib.ListN.{length, getD, drop}
+use lib.Seq.{drop-cons}
 use borrow.Author.Tests.{eqb-true, eqb-false}
 use Rattle.scope.specs.Sheet.{Gate, All, Among, Names, Ordered}
-use Rattle.circuit.specs.Lent.{rows, Columns, gateOf}
+use Rattle.circuit.specs.Lent.{rows, gateOf}
 
 pub all-at : {A : Type 0} (P : A → Type 0) (s : List A) (d : A) (i : ℕ) → All P s → i < length s → P (getD s i d)
 all-at P [] d i h l = absurd (omega arith)
@@ -38,36 +38,11 @@ module _ {A : Type 0} (f : ℕ → ℕ → ℕ → A) where
   row-at (x ∷ xs) (y ∷ ys) (z ∷ zs) d zero e g h = refl
   row-at (x ∷ xs) (y ∷ ys) (z ∷ zs) d (suc i) e g h = row-at xs ys zs d i (omega arith) (omega arith) (omega arith)
 
-  -- the rows from i on, and one more at the end
+  -- the rows from i on
   pub row-drop : (xs ys zs : List ℕ) (i : ℕ) → length ys ≡ length xs → length zs ≡ length xs → i < length xs → drop i (rows f xs ys zs) ≡ f (getD xs i 0) (getD ys i 0) (getD zs i 0) ∷ drop (i + 1) (rows f xs ys zs)
   row-drop xs ys zs i e g h =
       let d : A = f 0 0 0 in
       rw add-one (drop-cons (rows f xs ys zs) i d (omega (arith, length-rows xs ys zs e g)) ∙ ap (λ a. a ∷ drop (suc i) (rows f xs ys zs)) (row-at xs ys zs d i e g h))
-
-  row-snoc : (xs ys zs : List ℕ) (x y z : ℕ) → length ys ≡ length xs → length zs ≡ length xs → rows f (xs ++ x ∷ []) (ys ++ y ∷ []) (zs ++ z ∷ []) ≡ rows f xs ys zs ++ f x y z ∷ []
-  unfolding rows
-  row-snoc [] [] [] x y z e g = refl
-  row-snoc [] [] (c ∷ zs) x y z e g = absurd (omega arith)
-  row-snoc [] (b ∷ ys) zs x y z e g = absurd (omega arith)
-  row-snoc (a ∷ xs) [] zs x y z e g = absurd (omega arith)
-  row-snoc (a ∷ xs) (b ∷ ys) [] x y z e g = absurd (omega arith)
-  row-snoc (a ∷ xs) (b ∷ ys) (c ∷ zs) x y z e g = ap (λ l. f a b c ∷ l) (row-snoc xs ys zs x y z (omega arith) (omega arith))
-
-  -- a row stored after the first n
-  pub row-more : (n : ℕ) (xs ys zs : List ℕ) (x y z : ℕ) → n < length xs → n < length ys → n < length zs → rows f (take (n + 1) (set xs n x)) (take (n + 1) (set ys n y)) (take (n + 1) (set zs n z)) ≡ rows f (take n xs) (take n ys) (take n zs) ++ f x y z ∷ []
-  row-more n xs ys zs x y z a b c =
-      let p : length (take n xs) ≡ n = length-take-le n xs (omega arith) in
-      let q : length (take n ys) ≡ n = length-take-le n ys (omega arith) in
-      let r : length (take n zs) ≡ n = length-take-le n zs (omega arith) in
-      rw (add-one n, take-suc-set xs n x a, take-suc-set ys n y b, take-suc-set zs n z c) (row-snoc (take n xs) (take n ys) (take n zs) x y z (q ∙ sym p) (r ∙ sym p))
-
--- the first n rows of full columns
-pub front : (m n : ℕ) (xs ys zs : List ℕ) → n ≤ m → length xs ≡ m → length ys ≡ m → length zs ≡ m → Columns m (take n xs) (take n ys) (take n zs)
-front m n xs ys zs h e f g =
-    let p : length (take n xs) ≡ n = length-take-le n xs (omega arith) in
-    let q : length (take n ys) ≡ n = length-take-le n ys (omega arith) in
-    let r : length (take n zs) ≡ n = length-take-le n zs (omega arith) in
-    record { few = omega arith; seconds = q ∙ sym p; thirds = r ∙ sym p }
 
 -- ---- gates
 

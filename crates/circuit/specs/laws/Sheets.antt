@@ -3,7 +3,7 @@ use Prim.Native.Nat.{ℕ}
 use mathlib.Core.List.{[]}
 use mathlib.Core.Path.{_≡_, refl}
 use Rattle.scope.specs.Sheet.{Sheet, sheet}
-use Rattle.scope.specs.Meaning.{distinct, broken, switchOn, truth, passes, cost}
+use Rattle.scope.specs.Meaning.{switchOn, truth, passes, cost}
 use Rattle.scope.specs.Rule.{missed}
 use Rattle.scope.specs.Jobs.{task}
 use Rattle.circuit.specs.Lent.{wishSheet}
@@ -19,8 +19,3 @@ module _ (t : Sheet) (plan : ℕ) where
   pub cost-of : cost (wishSheet (t .switches) (t .wishes)) plan ≡ cost t plan
   unfolding cost switchOn
   cost-of = refl
-
-  -- the cost, by the wishes that count
-  pub broken-cost : broken (switchOn (wishSheet (t .switches) []) plan) (distinct [] (t .wishes)) ≡ cost t plan
-  unfolding cost switchOn
-  broken-cost = refl

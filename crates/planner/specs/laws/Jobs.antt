@@ -10,11 +10,11 @@ use mathlib.Core.Path.{_≡_, refl, sym, ap, ap₂, _∙_}
 use lib.ListN.{length, getD, take, drop, drop-of-length-le}
 use lib.Seq.{drop-cons, length-take-le}
 use borrow.Author.Tests.{lt-ltb, le-ltb}
-use Rattle.scope.specs.Sheet.{Clause, Sheet, sheet, fieldCount, All, Among, Valid}
+use Rattle.scope.specs.Sheet.{Sheet, sheet, fieldCount, All, Among, Valid}
 use Rattle.scope.specs.Reading.{accepted, refused, read}
-use Rattle.scope.specs.Meaning.{plans, patterns, distinct, switchOn, passes, truth, cost}
+use Rattle.scope.specs.Meaning.{plans, patterns, switchOn, passes, truth, cost}
 use Rattle.scope.specs.Rule.{noRoom, verdictOf, Run, run, rule, missed, short, best}
-use Rattle.scope.specs.Jobs.{task, Result, refusal, found, result, over, answered, answerOf, answer, firstHigh, shortOf, shortRun, rated, unrated, rating}
+use Rattle.scope.specs.Jobs.{task, Result, refusal, found, result, answered, answerOf, answer, firstHigh, shortOf, shortRun, rated, unrated, rating}
 use Rattle.scope.specs.Jobs as jobs
 use Rattle.scope.specs.laws.Inverse.{read-iff}
 use Rattle.circuit.specs.Lent.{Gates, Clauses, circuit, wishesOf, wishSheet}
@@ -22,7 +22,7 @@ use Rattle.circuit.specs.laws.Sheets.{cost-of, missed-of}
 use Rattle.search.specs.declared.best.Best.{Best}
 use Rattle.search.specs.declared.best.Best.the-variants.{Nothing, At}
 use Rattle.search.specs.declared.run.Run as made
-use Rattle.search.specs.Table.{table, Lent, bestOf, Priced, verdictFrom, Ran}
+use Rattle.search.specs.Table.{table, tableOf, Lent, bestOf, Priced, verdictFrom, Ran}
 use Rattle.sheet.specs.declared.tables.Tables.{Tables}
 use Rattle.sheet.specs.Tables.{outcome}
 use Rattle.sheet.specs.laws.Outcomes.{accepted-of, refused-of}
@@ -41,9 +41,9 @@ sheeted s u e z =
     let (t, f) = accepted-of fieldCount s u e z in
     record { sheet = t; reads = f; valid = read-iff fieldCount (omega arith) s t .0 f .1; cut = cut-accepted t u (read fieldCount s) e f }
 
--- ---- a sheet's table of plans and patterns, by its distinct wishes
+-- ---- a sheet's table of plans and patterns
 
-pub table-task : (t : Sheet) → table (sheet (t .switches) (t .faults) (t .gates) (t .rules) []) (distinct [] (t .wishes)) ≡ task t
+table-task : (t : Sheet) → table (sheet (t .switches) (t .faults) (t .gates) (t .rules) []) (t .wishes) ≡ task t
 unfolding passes truth cost switchOn
 table-task t = refl
 
@@ -92,9 +92,8 @@ module _ (s : List ℕ) (u : Tables) (h : Sheeted s u) (g n w : ℕ) (gates : g 
   pub missed-is : (p : ℕ) → missed (task (circuit (u .switches) (u .faults) kinds lefts rights points)) p ≡ missed (task (h .sheet)) p
   missed-is p = ap (λ t. missed (task t) p) circuit-of ∙ missed-of (h .sheet) p
 
-  -- over the distinct wishes, ds
-  pub table-is : (ds : List Clause) → ds ≡ distinct [] (wishesOf firsts seconds thirds) → table (circuit (u .switches) (u .faults) kinds lefts rights points) ds ≡ task (h .sheet)
-  table-is ds e = ap₂ table circuit-of (e ∙ ap (distinct []) wishes-of) ∙ table-task (h .sheet)
+  pub table-is : tableOf (u .switches) (u .faults) kinds lefts rights points firsts seconds thirds ≡ task (h .sheet)
+  table-is = ap₂ table circuit-of wishes-of ∙ table-task (h .sheet)
 
 -- ---- refused sheets
 

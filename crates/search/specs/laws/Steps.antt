@@ -6,13 +6,13 @@ use native.Mathlib.Numerals.{add-one}
 use mathlib.Core.Bool.{Bool, true, false, cond}
 use mathlib.Core.List.{List, [], _∷_, _++_}
 use mathlib.Core.Option.{none, some}
-use mathlib.Core.Path.{_≡_, refl, sym, ap, subst, _∙_}
+use mathlib.Core.Path.{_≡_, refl, sym, ap, _∙_}
 use lib.Dec.{eqb, leb, ltb}
 use lib.ListN.{length, getD, take, drop, set, length-set, take-append-drop}
 use lib.Seq.{length-take-le, take-suc-set, drop-set-lt, drop-drop}
 use borrow.Author.Tests.{eqb-true, leb-true, ltb-true, not-true}
-use Rattle.scope.specs.Sheet.{Clause, Sheet, mostWishes, All, Wish}
-use Rattle.scope.specs.Meaning.{passes, distinct}
+use Rattle.scope.specs.Sheet.{Clause, Sheet}
+use Rattle.scope.specs.Meaning.{passes}
 use Rattle.scope.specs.Pick.{keep, pick}
 use Rattle.scope.specs.Rule.{Task, Run, passesAll, best, missed, missedBy, next, short, rule}
 use Rattle.scope.specs.Jobs.{task, over}
@@ -22,15 +22,13 @@ use Rattle.scope.specs.laws.Rules.{passes-at, best-iff, missed-iff, rule-stop, 
 use Rattle.circuit.specs.declared.Plan.{Plan}
 use Rattle.circuit.specs.declared.Pattern.{Pattern}
 use Rattle.circuit.specs.declared.rule.Missed.{Missed}
-use Rattle.circuit.specs.declared.wish.Wishes.{Wishes}
-use Rattle.circuit.specs.Lent.{missedOf, wishesOf, listed}
-use Rattle.circuit.specs.laws.Wishes.{all-distinct}
+use Rattle.circuit.specs.Lent.{missedOf}
 use Rattle.search.specs.declared.best.Best.{Best}
 use Rattle.search.specs.declared.best.Best.the-variants.{Nothing, At}
 use Rattle.search.specs.declared.run.Step.{Step}
 use Rattle.search.specs.declared.run.Step.the-variants.{Done, Add}
 use Rattle.search.specs.declared.run.Run as made
-use Rattle.search.specs.Table.{table, Lent, bestOf, Priced, Ran}
+use Rattle.search.specs.Table.{table, bestOf, Priced, Ran}
 
 -- ---- a list is passed up to a pattern that is not
 
@@ -211,18 +209,3 @@ module _ (t : Task) (lent l : List ℕ) (n : ℕ) (k : Kept lent l n) (o : Onwar
         list = rw e (kept-over lent l n k);
         priced = rw g tt;
       }
-
--- ---- the distinct wishes, in columns of their own
-
-pub distinct-lent : (a f : ℕ) (kind left right rules first second third : List ℕ) (d : Wishes) → Lent a f kind left right rules first second third
-    → d .count ≤ mostWishes → listed d ≡ distinct [] (wishesOf first second third) → d .count ≡ length (take (d .count) (d .first)) → d .count ≡ length (take (d .count) (d .second)) → d .count ≡ length (take (d .count) (d .third))
-    → Lent a f kind left right rules (take (d .count) (d .first)) (take (d .count) (d .second)) (take (d .count) (d .third))
-distinct-lent a f kind left right rules first second third d l few e x y z = record {
-  gates = l .gates;
-  points = l .points;
-  wishes = record {
-    switches = l .gates .switches;
-    columns = record { few = omega arith; seconds = sym y ∙ x; thirds = sym z ∙ x };
-    wishes = subst (All (Wish a)) (sym e) (all-distinct (Wish a) [] (wishesOf first second third) (l .wishes .wishes));
-  };
-}

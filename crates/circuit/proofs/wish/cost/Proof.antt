@@ -1,84 +1,93 @@
+use Prim.Native.Nat.{_+_, _-_, _≤_}
 use native.Mathlib.Omega.{arith}
-use mathlib.Core.List.{[]}
-use mathlib.Core.Path.{_≡_, sym, ap, subst, _∙_}
-use lib.ListN.{length}
-use lib.Seq.{length-take-le}
+use mathlib.Core.Logic.{⊎-elim}
+use mathlib.Core.Path.{_≡_, sym, _∙_}
+use lib.ListN.{length, drop}
+use borrow.Author.Tests.{not-true, not-false}
 use borrow.Author.Needs.{needs}
-use Rattle.scope.specs.Sheet.{All, Wish}
-use Rattle.scope.specs.Meaning.{broken, switchOn}
-use Rattle.circuit.specs.Lent.{wishSheet}
-use Rattle.circuit.specs.laws.Columns.{front}
-use Rattle.circuit.specs.laws.Wishes.{all-distinct}
-use Rattle.circuit.specs.laws.Sheets.{broken-cost}
+use Rattle.scope.specs.Meaning.{cost}
+use Rattle.circuit.specs.Lent.{wishesOf, wishSheet}
+use Rattle.circuit.specs.laws.Wishes.{wish-at, cost-kept, cost-more, cost-end}
 use Rattle.circuit.proofs.wish.cost.Statement.{statement}
 use Rattle.circuit.proofs.wish.cost.Tie as tie
 
-distinct-requires : tie.Need-distinct-requires
-distinct-requires c κs = search needs
+abbrev Inv-loop : tie.InvT-loop
+Inv-loop first second third a plan count₀ i₀ count i =
+    let ws = wishesOf first second third in
+    (i ≤ length first) × (count ≤ i) × (count + cost (wishSheet a (drop i ws)) (plan .0) ≡ cost (wishSheet a ws) (plan .0))
 
-array-share-prefix-x : tie.Need-array-share-prefix-x
-array-share-prefix-x c =
-    let r = c .before .before .before .distinct .result in
-    let e : length (r .first) ≡ 64 = search needs in
-    omega arith
+abbrev μ-loop : tie.MeasureT-loop
+μ-loop first second third a plan count₀ i₀ count i = length first - i
 
-slice-aggregate-broken : tie.Need-slice-aggregate-broken
-slice-aggregate-broken c =
-    let r = c .before .before .before .before .distinct .result in
-    let e : length (r .first) ≡ 64 = search needs in
-    sym (length-take-le (r .count) (r .first) (omega arith))
+loop-holds : tie.Need-loop-holds Inv-loop μ-loop
+loop-holds c = (search needs, search needs, omega arith)
 
-array-share-prefix-y : tie.Need-array-share-prefix-y
-array-share-prefix-y c =
-    let r = c .before .before .before .before .distinct .result in
-    let e : length (r .second) ≡ 64 = search needs in
-    omega arith
+mul-kept : tie.Need-mul-kept Inv-loop μ-loop
+mul-kept c = search needs
 
-slice-aggregate-broken-2 : tie.Need-slice-aggregate-broken-2
-slice-aggregate-broken-2 c =
-    let r = c .before .before .before .before .before .distinct .result in
-    let e : length (r .second) ≡ 64 = search needs in
-    sym (length-take-le (r .count) (r .second) (omega arith))
+shared-slice-read-kept : tie.Need-shared-slice-read-kept Inv-loop μ-loop
+shared-slice-read-kept c = search needs
 
-array-share-prefix-z : tie.Need-array-share-prefix-z
-array-share-prefix-z c =
-    let r = c .before .before .before .before .before .distinct .result in
-    let e : length (r .third) ≡ 64 = search needs in
-    omega arith
+mul-kept-2 : tie.Need-mul-kept-2 Inv-loop μ-loop
+mul-kept-2 c = search needs
 
-slice-aggregate-broken-3 : tie.Need-slice-aggregate-broken-3
-slice-aggregate-broken-3 c =
-    let r = c .before .before .before .before .before .before .distinct .result in
-    let e : length (r .third) ≡ 64 = search needs in
-    sym (length-take-le (r .count) (r .third) (omega arith))
+shared-slice-read-kept-2 : tie.Need-shared-slice-read-kept-2 Inv-loop μ-loop
+shared-slice-read-kept-2 c = search needs
 
-broken-requires : tie.Need-broken-requires
-broken-requires c κs =
+mul-kept-3 : tie.Need-mul-kept-3 Inv-loop μ-loop
+mul-kept-3 c = search needs
+
+shared-slice-read-kept-3 : tie.Need-shared-slice-read-kept-3 Inv-loop μ-loop
+shared-slice-read-kept-3 c = search needs
+
+kept-requires : tie.Need-kept-requires Inv-loop μ-loop
+kept-requires c κs =
+    let s = c .before .before .before .before .before .before .before .before in
+    (s .pre .switches, wish-at (s .pre .columns) _ _ (c .before .before .before .loop-test .taken) (s .pre .wishes))
+
+add-count : tie.Need-add-count Inv-loop μ-loop
+add-count c = search needs
+
+add-i : tie.Need-add-i Inv-loop μ-loop
+add-i c = search needs
+
+loop-less : tie.Need-loop-less Inv-loop μ-loop
+loop-less c = search needs
+
+loop-again : tie.Need-loop-again Inv-loop μ-loop
+loop-again c =
     let s = c .before .before .before .before .before .before .before .before .before .before in
-    let d = c .before .before .before .before .before .before .distinct in
-    let r = d .result in
-    record {
-      switches = s .pre .switches;
-      columns = front 64 (r .count) (r .first) (r .second) (r .third) (d .ensures .0) (search needs) (search needs) (search needs);
-      wishes = subst (All (Wish (s .args .a))) (sym (d .ensures .1)) (all-distinct (Wish (s .args .a)) [] _ (s .pre .wishes));
-    }
+    let a = s .args .a in
+    let p = s .args .plan .0 in
+    let i = c .before .before .before .before .before .before .loop .i in
+    let l = c .before .before .before .before .before .loop-test .taken in
+    let e = sym (c .before .kept .ensures) in
+    ⊎-elim
+    (λ w. (omega arith, omega arith, omega (arith, cost-more (s .pre .columns) a p i l (e ∙ not-true _ (w .0 .taken)))))
+    (λ w. (omega arith, omega arith, omega (arith, cost-kept (s .pre .columns) a p i l (e ∙ not-false _ (w .0 .left)))))
+    (c .if1 .came)
 
-returns : tie.Need-returns
+returns : tie.Need-returns Inv-loop μ-loop
 returns c =
-    let a = c .before .before .before .before .before .before .before .before .before .before .before .args in
-    let d = c .before .before .before .before .before .before .before .distinct in
-    c .broken .ensures .0 ∙ ap (broken (switchOn (wishSheet (a .a) []) (a .plan .0))) (d .ensures .1) ∙ broken-cost _ _
+    let s = c .before .before .before .before .before in
+    omega (arith, cost-end (s .pre .columns) (s .args .a) (s .args .plan .0) (c .before .loop .i) (c .loop-test .left))
 
 pub cost-spec : {M : Type 1} → statement M
 cost-spec =
     tie.close
     (tie.spec
-    distinct-requires
-    array-share-prefix-x
-    slice-aggregate-broken
-    array-share-prefix-y
-    slice-aggregate-broken-2
-    array-share-prefix-z
-    slice-aggregate-broken-3
-    broken-requires
+    Inv-loop
+    μ-loop
+    loop-holds
+    mul-kept
+    shared-slice-read-kept
+    mul-kept-2
+    shared-slice-read-kept-2
+    mul-kept-3
+    shared-slice-read-kept-3
+    kept-requires
+    add-count
+    add-i
+    loop-less
+    loop-again
     returns)

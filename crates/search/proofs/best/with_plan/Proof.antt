@@ -1,5 +1,4 @@
 use mathlib.Core.Path.{sym, _∙_}
-use Rattle.scope.specs.Meaning.{switchOn}
 use Rattle.scope.specs.Rule.{passesAll}
 use Rattle.circuit.specs.Lent.{wishesOf}
 use Rattle.search.specs.Table.{tableOf}
@@ -8,20 +7,19 @@ use borrow.Author.Needs.{needs}
 use Rattle.search.proofs.best.with_plan.Statement.{statement}
 use Rattle.search.proofs.best.with_plan.Tie as tie
 
-broken-requires : tie.Need-broken-requires
-broken-requires c κs = search needs
+cost-requires : tie.Need-cost-requires
+cost-requires c κs = search needs
 
 known-to-fail-requires : tie.Need-known-to-fail-requires
 known-to-fail-requires c κs = search needs
 
 returns : tie.Need-returns
-unfolding switchOn
 returns c =
     let s = c .before .before .before .before .before .before .before .before .before .before .before in
     let a = s .args in
     let t = tableOf (a .a) (a .f) (a .kind .now) (a .left .now) (a .right .now) (a .rules .now) (a .first .now) (a .second .now) (a .third .now) in
     let ok = passesAll t (a .plan .0) (a .list .now) in
-    let cost = c .before .before .broken .ensures .0 in
+    let cost = c .before .before .cost .ensures in
     (fails t (a .plan .0) _ (a .best) ok (s .pre .2) cost (s .pre .1 .fail (a .plan .0) (s .pre .3) (rw (← cost) (sym (c .before .known-to-fail .ensures) ∙ c .if1 .taken))), s .pre .2)
 
 improves-requires : tie.Need-improves-requires
@@ -31,38 +29,35 @@ passes-all-requires : tie.Need-passes-all-requires
 passes-all-requires c κs = search needs
 
 returns-2 : tie.Need-returns-2
-unfolding switchOn
 returns-2 c =
     let s = c .before .before .before .before .before .before .before .before .before .before .before .before .before .before .before in
     let a = s .args in
     let t = tableOf (a .a) (a .f) (a .kind .now) (a .left .now) (a .right .now) (a .rules .now) (a .first .now) (a .second .now) (a .third .now) in
     let ok = passesAll t (a .plan .0) (a .list .now) in
-    let cost = c .before .before .before .before .before .before .broken .ensures .0 in
+    let cost = c .before .before .before .before .before .before .cost .ensures in
     (takes-over t (a .plan .0) _ (a .best) ok (s .pre .2) cost (sym (c .before .before .before .improves .ensures) ∙ c .before .before .if2 .taken) (sym (c .before .passes-all .ensures (wishesOf (a .first .now) (a .second .now) (a .third .now))) ∙ c .if3 .taken), cost)
 
 returns-3 : tie.Need-returns-3
-unfolding switchOn
 returns-3 c =
     let s = c .before .before .before .before .before .before .before .before .before .before .before .before .before .before .before in
     let a = s .args in
     let t = tableOf (a .a) (a .f) (a .kind .now) (a .left .now) (a .right .now) (a .rules .now) (a .first .now) (a .second .now) (a .third .now) in
     let ok = passesAll t (a .plan .0) (a .list .now) in
-    (fails t (a .plan .0) _ (a .best) ok (s .pre .2) (c .before .before .before .before .before .before .broken .ensures .0) (sym (c .before .passes-all .ensures (wishesOf (a .first .now) (a .second .now) (a .third .now))) ∙ c .if3 .left), s .pre .2)
+    (fails t (a .plan .0) _ (a .best) ok (s .pre .2) (c .before .before .before .before .before .before .cost .ensures) (sym (c .before .passes-all .ensures (wishesOf (a .first .now) (a .second .now) (a .third .now))) ∙ c .if3 .left), s .pre .2)
 
 returns-4 : tie.Need-returns-4
-unfolding switchOn
 returns-4 c =
     let s = c .before .before .before .before .before .before .before .before .before .before .before .before .before in
     let a = s .args in
     let t = tableOf (a .a) (a .f) (a .kind .now) (a .left .now) (a .right .now) (a .rules .now) (a .first .now) (a .second .now) (a .third .now) in
     let ok = passesAll t (a .plan .0) (a .list .now) in
-    (costs-more t (a .plan .0) _ (a .best) ok (s .pre .2) (c .before .before .before .before .broken .ensures .0) (sym (c .before .improves .ensures) ∙ c .if2 .left), s .pre .2)
+    (costs-more t (a .plan .0) _ (a .best) ok (s .pre .2) (c .before .before .before .before .cost .ensures) (sym (c .before .improves .ensures) ∙ c .if2 .left), s .pre .2)
 
 pub with-plan-spec : {M : Type 1} → statement M
 with-plan-spec =
     tie.close
     (tie.spec
-    broken-requires
+    cost-requires
     known-to-fail-requires
     returns
     improves-requires
