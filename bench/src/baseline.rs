@@ -7,7 +7,7 @@ use comzsered::figures::{Found, Rated};
 const LINE: usize = 17;
 const MAX_LINES: usize = 530;
 
-/// A sheet's tables, a column for each field. Wishes that repeat an earlier one are left out.
+/// A sheet's tables, a column for each field.
 pub struct Tables {
     a: u32,
     f: u32,
@@ -59,12 +59,6 @@ fn line(bytes: &[u8]) -> Option<(u8, u32, i32, i32, i32)> {
     (bytes[16] == b'\n').then_some((bytes[0], part, first, second, third))
 }
 
-/// Whether two wishes are the same set of literals.
-fn same_set(x: &[i32; 3], y: &[i32; 3]) -> bool {
-    let within = |x: &[i32; 3], y: &[i32; 3]| x.iter().all(|l| *l == 0 || y.contains(l));
-    within(x, y) && within(y, x)
-}
-
 /// The tables, or the number and place of the refusal.
 pub fn read(bytes: &[u8]) -> Result<Tables, (u32, usize)> {
     if bytes.is_empty() || bytes.len() % LINE != 0 || bytes.len() > MAX_LINES * LINE {
@@ -80,7 +74,6 @@ pub fn read(bytes: &[u8]) -> Result<Tables, (u32, usize)> {
         rules: Vec::with_capacity(64),
         wishes: Vec::with_capacity(64),
     };
-    let mut wishes = 0;
     let mut part_before = 0;
     for (before, bytes) in bytes.chunks_exact(LINE).enumerate() {
         let place = before + 1;
@@ -120,7 +113,7 @@ pub fn read(bytes: &[u8]) -> Result<Tables, (u32, usize)> {
                 fits = is_point(p) && q == 0 && r == 0;
             }
             b'W' => {
-                full = wishes == 64;
+                full = t.wishes.len() == 64;
                 let first_zeros = (p == 0 && q != 0) || (q == 0 && r != 0);
                 fits = is_literal(p) && is_literal(q) && is_literal(r) && !first_zeros;
             }
@@ -142,13 +135,7 @@ pub fn read(bytes: &[u8]) -> Result<Tables, (u32, usize)> {
                 t.right.push(q as u32);
             }
             b'R' => t.rules.push(p as u32),
-            b'W' => {
-                wishes += 1;
-                let wish = [p, q, r];
-                if !t.wishes.iter().any(|earlier| same_set(earlier, &wish)) {
-                    t.wishes.push(wish);
-                }
-            }
+            b'W' => t.wishes.push([p, q, r]),
             b'Z' if p != before as i32 => return Err((7, place)),
             _ => {}
         }
