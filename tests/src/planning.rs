@@ -913,7 +913,7 @@ mod tests {
             "a repeated wish left out",
             "a repeated wish left out if written in the same order",
             "a repeated wish left out unless written in the same order",
-            "a wish counted for each of its literals",
+            "a wish counted twice for a literal that it has twice",
             "the larger plan at equal cost",
             "the first sound plan",
             "faults tried singly",
@@ -948,7 +948,7 @@ mod tests {
                 &|k| usize::from(!same_set(k)),
                 &|k| usize::from(!same_order(k)),
                 &|k| usize::from(!same_set(k) || same_order(k)),
-                &|k| wishes[k].len(),
+                &|k| 1 + wishes[k].len() - set(&wishes[k]).len(),
             ];
             let cost = |plan| (planner.cost(plan), plan);
             let strike = |plan: u32| {
@@ -956,7 +956,7 @@ mod tests {
                 rules.iter().all(|&p| struck(&planner, plan, p, true))
             };
             let right_cost = right.map(|plan| (planner.cost(plan) as usize, plan));
-            let [sets, orders, others, literals] = wrong_costs.map(|times| {
+            let [sets, orders, others, twice] = wrong_costs.map(|times| {
                 let best = best_by(&planner, &every, |p| (counted(times, p), p));
                 best.map(|plan| (counted(times, plan), plan)) != right_cost
             });
@@ -964,7 +964,7 @@ mod tests {
                 sets,
                 orders,
                 others,
-                literals,
+                twice,
                 best_by(&planner, &every, |p| (planner.cost(p), u32::MAX - p)) != right,
                 best_by(&planner, &every, |p| p) != right,
                 best_by(&planner, &singly, cost) != right,
