@@ -4,4 +4,3 @@ pub mod Points
 pub mod Patterns
 pub mod Literals
 pub mod Wishes
-pub mod Sheets

@@ -1,7 +1,7 @@
 -- What is claimed of the definitions, each claim with its proof. Assumes nothing.
 use Prim.Native.Nat.{ℕ, _+_, _≤_, _<_}
 use mathlib.Core.Bool.{true, false, cond}
-use mathlib.Core.List.{List, [], _∷_, _++_}
+use mathlib.Core.List.{List, [], _∷_, _++_, List·Memᴰ, Perm}
 use mathlib.Core.Logic.{_↔_}
 use mathlib.Core.Option.{some}
 use mathlib.Core.Path.{_≡_}
@@ -19,7 +19,7 @@ use Rattle.scope.specs.laws.Lines.{Printed}
 use Rattle.scope.specs.laws.Refusals as refusals
 use Rattle.scope.specs.laws.Inverse as inverse
 use Rattle.scope.specs.laws.Wishes as wishes
-use Rattle.scope.specs.laws.Wishes.{In, Reordered, costs}
+use Rattle.scope.specs.laws.Wishes.{costs}
 use Rattle.scope.specs.laws.Picks.{Before}
 use Rattle.scope.specs.laws.Rules as rules
 use Rattle.scope.specs.laws.Rules.{lead}
@@ -55,12 +55,12 @@ refusal-number = refusals.cause-number
 -- ---- plans
 
 -- a wish is kept exactly if one of its own literals is true
-pub kept-by : (t : Sheet) (plan : ℕ) (w : Clause) → (kept t plan w ≡ true) ↔ ((x : Number) × In x w × (literalTrue (switchOn t plan) x ≡ true))
+pub kept-by : (t : Sheet) (plan : ℕ) (w : Clause) → (kept t plan w ≡ true) ↔ ((x : Number) × List·Memᴰ x w × (literalTrue (switchOn t plan) x ≡ true))
 unfolding kept
 kept-by t plan = wishes.keeps-iff (switchOn t plan)
 
 -- one that holds k and -k is never broken, and one with no literal always
-pub both-kept : (t : Sheet) (plan k : ℕ) (w : Clause) → In (number false k) w → In (number true k) w → kept t plan w ≡ true
+pub both-kept : (t : Sheet) (plan k : ℕ) (w : Clause) → List·Memᴰ (number false k) w → List·Memᴰ (number true k) w → kept t plan w ≡ true
 unfolding kept
 both-kept t plan = wishes.both-kept (switchOn t plan)
 
@@ -76,7 +76,7 @@ pub wishes-cost : (a f : ℕ) (gs : List Gate) (rs : List ℕ) (plan : ℕ) (us 
 wishes-cost = wishes.cost-together
 
 -- the order of wishes does not count
-pub order-free : (a f : ℕ) (gs : List Gate) (rs : List ℕ) (plan : ℕ) {ws us : List Clause} → Reordered ws us → costs a f gs rs plan ws ≡ costs a f gs rs plan us
+pub order-free : (a f : ℕ) (gs : List Gate) (rs : List ℕ) (plan : ℕ) (ws us : List Clause) → Perm ws us → costs a f gs rs plan ws ≡ costs a f gs rs plan us
 order-free = wishes.cost-order
 
 pub rating-claim : (s : List ℕ) (p : ℕ) (t : Sheet) → read fieldCount s ≡ accepted t → p < plans t → Rates t p (rating s p)

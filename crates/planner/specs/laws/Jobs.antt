@@ -18,7 +18,6 @@ use Rattle.scope.specs.Jobs.{task, Result, refusal, found, result, answered, an
 use Rattle.scope.specs.Jobs as jobs
 use Rattle.scope.specs.laws.Inverse.{read-iff}
 use Rattle.circuit.specs.Lent.{Gates, Clauses, circuit, wishesOf, wishSheet}
-use Rattle.circuit.specs.laws.Sheets.{cost-of, missed-of}
 use Rattle.search.specs.declared.best.Best.{Best}
 use Rattle.search.specs.declared.best.Best.the-variants.{Nothing, At}
 use Rattle.search.specs.declared.run.Run as made
@@ -83,17 +82,19 @@ module _ (s : List ℕ) (u : Tables) (h : Sheeted s u) (g n w : ℕ) (gates : g 
   pub wishes-of : wishesOf firsts seconds thirds ≡ h .sheet .wishes
   wishes-of = rw wishes (wishes-are (h .sheet) (h .valid) u (h .cut))
 
-  pub cost-is : (p : ℕ) → cost (wishSheet (u .switches) (wishesOf firsts seconds thirds)) p ≡ cost (h .sheet) p
-  cost-is p = rw (wishes-of, h .cut .switches) (cost-of (h .sheet) p)
-
   circuit-of : circuit (u .switches) (u .faults) kinds lefts rights points ≡ sheet (h .sheet .switches) (h .sheet .faults) (h .sheet .gates) (h .sheet .rules) []
   circuit-of = rw (gates, rules) (circuit-is (h .sheet) (h .valid) u (h .cut))
 
-  pub missed-is : (p : ℕ) → missed (task (circuit (u .switches) (u .faults) kinds lefts rights points)) p ≡ missed (task (h .sheet)) p
-  missed-is p = ap (λ t. missed (task t) p) circuit-of ∙ missed-of (h .sheet) p
-
   pub table-is : tableOf (u .switches) (u .faults) kinds lefts rights points firsts seconds thirds ≡ task (h .sheet)
   table-is = ap₂ table circuit-of wishes-of ∙ table-task (h .sheet)
+
+  pub cost-is : (p : ℕ) → cost (wishSheet (u .switches) (wishesOf firsts seconds thirds)) p ≡ cost (h .sheet) p
+  cost-is p = ap (λ t. t .cost p) table-is
+
+  -- what a plan misses is the same with no wishes
+  pub missed-is : (p : ℕ) → missed (task (circuit (u .switches) (u .faults) kinds lefts rights points)) p ≡ missed (task (h .sheet)) p
+  unfolding missed
+  missed-is p = ap (λ t. missed t p) table-is
 
 -- ---- refused sheets
 

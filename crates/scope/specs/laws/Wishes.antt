@@ -1,9 +1,10 @@
 -- Which wishes are kept, and what a plan costs. Assumes nothing.
 use Prim.Native.Nat.{ℕ, suc, _+_, _≤_}
+use native.Mathlib.Nat.{ℕ-set}
 use native.Mathlib.Omega.{arith}
 use mathlib.Core.Bool.{Bool, true, false, cond, or-true}
-use mathlib.Core.List.{List, [], _∷_, _++_}
-use mathlib.Core.Logic.{_↔_, _⊎_, inl, inr}
+use mathlib.Core.List.{List, [], _∷_, _++_, List·Memᴰ, List·Memᴰ·head, List·Memᴰ·tail, Perm, List·Permᴰ, List·Permᴰ·nil, List·Permᴰ·cons, List·Permᴰ·swap, List·Permᴰ·trans}
+use mathlib.Core.Logic.{_↔_, ∥∥₁-elim}
 use mathlib.Core.Path.{_≡_, refl, sym, ap, _∙_}
 use lib.ListN.{length}
 use Rattle.scope.specs.Sheet.{Number, number, Clause, Gate, Sheet, sheet, mostWishes, Valid}
@@ -12,33 +13,27 @@ use Rattle.scope.specs.laws.Tests.{clash}
 
 -- ---- kept and broken
 
--- the literal x stands in w
-abbrev pub In : Number → Clause → Type 0
-In x [] = ⊥
-In x (y ∷ w) = (x ≡ y) ⊎ In x w
-
 module _ (v : ℕ → Bool) where
-  in-keeps : (x : Number) (w : Clause) → In x w → literalTrue v x ≡ true → keeps v w ≡ true
+  in-keeps : (x : Number) (w : Clause) → List·Memᴰ x w → literalTrue v x ≡ true → keeps v w ≡ true
   unfolding keeps
-  in-keeps x [] i e = absurd i
-  in-keeps x (y ∷ w) (inl h) e = rw (ap (literalTrue v) (sym h) ∙ e)
-  in-keeps x (y ∷ w) (inr i) e = rw (in-keeps x w i e) (or-true (literalTrue v y))
+  in-keeps x (y ∷ w) (List·Memᴰ·head h) e = rw (ap (literalTrue v) (sym h) ∙ e)
+  in-keeps x (y ∷ w) (List·Memᴰ·tail i) e = rw (in-keeps x w i e) (or-true (literalTrue v y))
 
-  keeps-in : (w : Clause) → keeps v w ≡ true → (x : Number) × In x w × (literalTrue v x ≡ true)
+  keeps-in : (w : Clause) → keeps v w ≡ true → (x : Number) × List·Memᴰ x w × (literalTrue v x ≡ true)
   unfolding keeps
   keeps-in [] e = clash e refl
   keeps-in (y ∷ w) e = go (literalTrue v y) refl (keeps-in w)
     where
-      go : (b : Bool) → literalTrue v y ≡ b → (keeps v w ≡ true → (x : Number) × In x w × (literalTrue v x ≡ true)) → (x : Number) × In x (y ∷ w) × (literalTrue v x ≡ true)
-      go true h later = (y, inl refl, h)
-      go false h later = let (x, i, f) = later (rw h at e) in (x, inr i, f)
+      go : (b : Bool) → literalTrue v y ≡ b → (keeps v w ≡ true → (x : Number) × List·Memᴰ x w × (literalTrue v x ≡ true)) → (x : Number) × List·Memᴰ x (y ∷ w) × (literalTrue v x ≡ true)
+      go true h later = (y, List·Memᴰ·head refl, h)
+      go false h later = let (x, i, f) = later (rw h at e) in (x, List·Memᴰ·tail i, f)
 
   -- a wish is kept exactly if one of its own literals is true
-  pub keeps-iff : (w : Clause) → (keeps v w ≡ true) ↔ ((x : Number) × In x w × (literalTrue v x ≡ true))
+  pub keeps-iff : (w : Clause) → (keeps v w ≡ true) ↔ ((x : Number) × List·Memᴰ x w × (literalTrue v x ≡ true))
   keeps-iff w = (keeps-in w, λ (x, i, e). in-keeps x w i e)
 
   -- one that holds k and -k is never broken, and one with no literal always
-  pub both-kept : (k : ℕ) (w : Clause) → In (number false k) w → In (number true k) w → keeps v w ≡ true
+  pub both-kept : (k : ℕ) (w : Clause) → List·Memᴰ (number false k) w → List·Memᴰ (number true k) w → keeps v w ≡ true
   both-kept k w a b = go (v k) refl
     where
       go : (t : Bool) → v k ≡ t → keeps v w ≡ true
@@ -48,14 +43,6 @@ module _ (v : ℕ → Bool) where
   pub none-kept : keeps v [] ≡ false
   unfolding keeps
   none-kept = refl
-
--- ---- the order of wishes
-
-pub data Reordered : List Clause → List Clause → Type 0 where
-  none : Reordered [] []
-  next : {ws us : List Clause} (w : Clause) → Reordered ws us → Reordered (w ∷ ws) (w ∷ us)
-  swap : (u w : Clause) (ws : List Clause) → Reordered (u ∷ w ∷ ws) (w ∷ u ∷ ws)
-  then : {ws us vs : List Clause} → Reordered ws us → Reordered us vs → Reordered ws vs
 
 -- ---- broken wishes
 
@@ -69,10 +56,6 @@ module _ (v : ℕ → Bool) where
       go true h = omega arith
       go false h = omega arith
 
-  broken-one : (w : Clause) → broken v (w ∷ []) ≡ cond (keeps v w) 0 1
-  unfolding broken
-  broken-one w = refl
-
   broken-together : (us ws : List Clause) → broken v (us ++ ws) ≡ broken v us + broken v ws
   unfolding broken
   broken-together [] ws = omega arith
@@ -82,11 +65,16 @@ module _ (v : ℕ → Bool) where
       go true h = h
       go false h = omega arith
 
-  broken-order : {ws us : List Clause} → Reordered ws us → broken v ws ≡ broken v us
-  broken-order none = refl
-  broken-order (next {ws} {us} w r) = omega (arith, broken-together (w ∷ []) ws, broken-together (w ∷ []) us, broken-order r)
-  broken-order (swap u w ws) = omega (arith, broken-together (u ∷ []) (w ∷ ws), broken-together (w ∷ []) ws, broken-together (w ∷ []) (u ∷ ws), broken-together (u ∷ []) ws)
-  broken-order (then r q) = broken-order r ∙ broken-order q
+  broken-order : {ws us : List Clause} → List·Permᴰ ws us → broken v ws ≡ broken v us
+  broken-order List·Permᴰ·nil = refl
+  broken-order (List·Permᴰ·cons {a = w} {b = u} {l₁ = ws} {l₂ = us} e p) =
+      let d : broken v (w ∷ []) ≡ broken v (u ∷ []) = ap (λ x. broken v (x ∷ [])) e in
+      omega (arith, d, broken-together (w ∷ []) ws, broken-together (u ∷ []) us, broken-order p)
+  broken-order (List·Permᴰ·swap {a = u} {b = w} {a′ = w′} {b′ = u′} {l = ws} e f) =
+      let d : broken v (u ∷ []) ≡ broken v (u′ ∷ []) = ap (λ x. broken v (x ∷ [])) e in
+      let g : broken v (w ∷ []) ≡ broken v (w′ ∷ []) = ap (λ x. broken v (x ∷ [])) f in
+      omega (arith, d, g, broken-together (u ∷ []) (w ∷ ws), broken-together (w ∷ []) ws, broken-together (w′ ∷ []) (u′ ∷ ws), broken-together (u′ ∷ []) ws)
+  broken-order (List·Permᴰ·trans p q) = broken-order p ∙ broken-order q
 
 -- ---- cost
 
@@ -104,13 +92,13 @@ module _ (a f : ℕ) (gs : List Gate) (rs : List ℕ) (plan : ℕ) where
   costs ws = cost (sheet a f gs rs ws) plan
 
   pub cost-one : (w : Clause) → costs (w ∷ []) ≡ cond (kept (sheet a f gs rs []) plan w) 0 1
-  unfolding cost kept switchOn
-  cost-one w = broken-one (switchOn (sheet a f gs rs []) plan) w
+  unfolding cost broken kept switchOn
+  cost-one w = refl
 
   pub cost-together : (us ws : List Clause) → costs (us ++ ws) ≡ costs us + costs ws
   unfolding cost switchOn
   cost-together us ws = broken-together (switchOn (sheet a f gs rs []) plan) us ws
 
-  pub cost-order : {ws us : List Clause} → Reordered ws us → costs ws ≡ costs us
+  pub cost-order : (ws us : List Clause) → Perm ws us → costs ws ≡ costs us
   unfolding cost switchOn
-  cost-order r = broken-order (switchOn (sheet a f gs rs []) plan) r
+  cost-order ws us p = ∥∥₁-elim p (ℕ-set (costs ws) (costs us)) (broken-order (switchOn (sheet a f gs rs []) plan))

@@ -1,7 +1,7 @@
 use Prim.Native.Nat.{_<_}
-use Rattle.scope.specs.Sheet.{Wish}
 use Rattle.circuit.specs.Lent.{clauseOf}
-use Rattle.circuit.specs.laws.Columns.{all-at, length-rows, row-at}
+use Rattle.circuit.specs.laws.Columns.{length-rows, row-at}
+use Rattle.circuit.specs.laws.Wishes.{wish-at}
 use Prim.Native.Nat.{_≤_, _-_}
 use mathlib.Core.List.{[]}
 use mathlib.Core.Path.{_≡_, refl, _∙_}
@@ -43,13 +43,8 @@ shared-slice-read-kept-3 c = search needs
 
 kept-requires : tie.Need-kept-requires Inv-loop μ-loop
 kept-requires c κs =
-    let s = c .before .before .before .before .before .before .before .before .before in
-    let a = s .args in
-    let q = s .pre .0 in
-    let l = wishesOf (a .first .now) (a .second .now) (a .third .now) in
-    let i = c .before .before .before .before .loop .i in
-    let h : i < length (a .first .now) = omega arith in
-    (q .switches, rw (row-at clauseOf (a .first .now) (a .second .now) (a .third .now) [] i (q .columns .seconds) (q .columns .thirds) h) at (all-at (Wish (a .a)) l [] i (q .wishes) (rw (length-rows clauseOf (a .first .now) (a .second .now) (a .third .now) (q .columns .seconds) (q .columns .thirds)) h)))
+    let q = c .before .before .before .before .before .before .before .before .before .pre .0 in
+    (q .switches, wish-at (q .columns) _ _ (c .before .before .before .loop-test .taken) (q .wishes))
 
 flag-requires : tie.Need-flag-requires Inv-loop μ-loop
 flag-requires c κs = search needs
