@@ -29,14 +29,15 @@
  *
  * The number
  *
- *   Answer, short run and rating return a number, and write a place. Both are 0 when the job is
- *   done. Lines are counted from 1.
+ *   Answer, short run and rating return a number, and write a place and a column. All three are 0
+ *   when the job is done. Lines and columns are counted from 1.
  *
  *    number  cause                                                              place
  *    ------  -----------------------------------------------------------------  ----------------
  *         0  none: the job is done                                              0
  *         1  the sheet's length is 0, above 9,010 or no multiple of 17          0
- *         2  the line is malformed, or its letter is unknown                    the line
+ *         2  the line is malformed, or its letter is unknown                    the line, with a
+ *                                                                               column
  *         3  the letter is not allowed at this line                             the line
  *         4  the number of switches (0 to 20) or of faults (0 to 16) is out     1
  *            of its range
@@ -51,6 +52,12 @@
  *        11  a given pattern is 2^f or more                                     the first such
  *                                                                               one's position,
  *                                                                               from 1
+ *
+ *   The column tells where the line of number 2 stops being the beginning of any well-formed line:
+ *   it is the smallest c from 1 to 17 such that no well-formed line has the same first c bytes. An
+ *   unknown letter gives 1, a wrong line feed 17. A leading zero and the 0 of -0 give the column of
+ *   that 0, a space after a digit that of the space, a minus in a field's last column that of the
+ *   minus, and a blank field its last column. After every other number the column is 0.
  *
  *   The causes are tried in this order, and the first that applies is returned: 1; the lines from
  *   the first, each for 2 to 7; 10 or 11; 9; 8. So 9 comes before 8: a list that is too short for
@@ -97,10 +104,11 @@ extern "C" {
  *   9         0         0         list_len  all words hold the list's beginning
  *   1 to 7    0         0         0         untouched
  *
- * *place is as in the table of numbers.
+ * *place and *column are as in the table of numbers.
  */
 uint32_t comzsered_answer(const uint8_t *sheet, size_t sheet_len, uint32_t *list, size_t list_len,
-                          size_t *place, uint32_t *plan, uint32_t *cost, size_t *length);
+                          size_t *place, size_t *column, uint32_t *plan, uint32_t *cost,
+                          size_t *length);
 
 /*
  * Short run: the best plan that passes the given patterns. They may come in any order and be
@@ -120,8 +128,8 @@ uint32_t comzsered_answer(const uint8_t *sheet, size_t sheet_len, uint32_t *list
  * not passed is the next listed one. After 9 that holds over all listed patterns too.
  */
 uint32_t comzsered_short_run(const uint8_t *sheet, size_t sheet_len, const uint32_t *patterns,
-                             size_t pattern_count, size_t *place, uint32_t *plan, uint32_t *cost,
-                             size_t *length);
+                             size_t pattern_count, size_t *place, size_t *column, uint32_t *plan,
+                             uint32_t *cost, size_t *length);
 
 /*
  * Rating: what a plan is worth.
@@ -135,13 +143,15 @@ uint32_t comzsered_short_run(const uint8_t *sheet, size_t sheet_len, const uint3
  * *length is always 0, and no buffer is written.
  */
 uint32_t comzsered_rating(const uint8_t *sheet, size_t sheet_len, uint32_t plan, size_t *place,
-                          uint32_t *cost, uint32_t *sound, uint32_t *pattern, size_t *length);
+                          size_t *column, uint32_t *cost, uint32_t *sound, uint32_t *pattern,
+                          size_t *length);
 
 /*
  * Listing: what the program 'plan' prints for these bytes as its input. It is the answer with a
  * list of 4,096 words, as lines of the shape that a sheet's lines have: A with number, place and
- * cost; after 0 an S line for each switch (1 on, 0 off) and a W line for each wish (1 kept,
- * 0 broken); after 0, 8 and 9 an F line for each listed pattern; Z with the number of lines before.
+ * cost, or after 2 with number, place and column; after 0 an S line for each switch (1 on, 0 off)
+ * and a W line for each wish (1 kept, 0 broken); after 0, 8 and 9 an F line for each listed pattern;
+ * Z with the number of lines before.
  *
  * Returns the length of the listing, which stands in the first bytes of out; the others are
  * untouched. If out_len is below COMZSERED_LISTING_MAX it returns 0, and all of out is untouched.

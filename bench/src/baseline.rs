@@ -59,10 +59,41 @@ fn line(bytes: &[u8]) -> Option<(u8, u32, i32, i32, i32)> {
     (bytes[16] == b'\n').then_some((bytes[0], part, first, second, third))
 }
 
-/// The tables, or the number and place of the refusal.
-pub fn read(bytes: &[u8]) -> Result<Tables, (u32, usize)> {
+/// The column at which a malformed line stops being the beginning of any well-formed line.
+#[cold]
+fn column(bytes: &[u8]) -> usize {
+    if part(bytes[0]).is_none() {
+        return 1;
+    }
+    for start in [1, 6, 11] {
+        let field = &bytes[start..start + 5];
+        if number(field).is_none() {
+            return start + 1 + right_bytes(field);
+        }
+    }
+    LINE
+}
+
+/// How many bytes of a malformed field could begin a number: spaces, a minus, then digits of which
+/// the first is not 0. At least the last column is wrong.
+fn right_bytes(field: &[u8]) -> usize {
+    let spaces = field.iter().take_while(|&&b| b == b' ').count().min(4);
+    let minus = usize::from(field[spaces] == b'-');
+    let first = (spaces + minus).min(4);
+    if !(b'1'..=b'9').contains(&field[first]) {
+        return first;
+    }
+    let digits = field[first..].iter().take_while(|b| b.is_ascii_digit());
+    first + digits.count()
+}
+
+/// Number, place and column.
+type Refusal = (u32, usize, usize);
+
+/// The tables, or the refusal.
+pub fn read(bytes: &[u8]) -> Result<Tables, Refusal> {
     if bytes.is_empty() || bytes.len() % LINE != 0 || bytes.len() > MAX_LINES * LINE {
-        return Err((1, 0));
+        return Err((1, 0, 0));
     }
     let lines = bytes.len() / LINE;
     let mut t = Tables {
@@ -78,11 +109,11 @@ pub fn read(bytes: &[u8]) -> Result<Tables, (u32, usize)> {
     for (before, bytes) in bytes.chunks_exact(LINE).enumerate() {
         let place = before + 1;
         let Some((letter, part, p, q, r)) = line(bytes) else {
-            return Err((2, place));
+            return Err((2, place, column(bytes)));
         };
         let (first, last) = (before == 0, place == lines);
         if (letter == b'H') != first || (letter == b'Z') != last || part < part_before {
-            return Err((3, place));
+            return Err((3, place, 0));
         }
         part_before = part;
         let points = (t.a + t.f) as i32 + t.kind.len() as i32;
@@ -94,7 +125,7 @@ pub fn read(bytes: &[u8]) -> Result<Tables, (u32, usize)> {
         match letter {
             b'H' => {
                 if !(0..=20).contains(&p) || !(0..=16).contains(&q) {
-                    return Err((4, place));
+                    return Err((4, place, 0));
                 }
                 (t.a, t.f) = (p as u32, q as u32);
                 full = false;
@@ -123,10 +154,10 @@ pub fn read(bytes: &[u8]) -> Result<Tables, (u32, usize)> {
             }
         }
         if full {
-            return Err((5, place));
+            return Err((5, place, 0));
         }
         if !fits {
-            return Err((6, place));
+            return Err((6, place, 0));
         }
         match letter {
             b'N' | b'A' | b'O' => {
@@ -136,7 +167,7 @@ pub fn read(bytes: &[u8]) -> Result<Tables, (u32, usize)> {
             }
             b'R' => t.rules.push(p as u32),
             b'W' => t.wishes.push([p, q, r]),
-            b'Z' if p != before as i32 => return Err((7, place)),
+            b'Z' if p != before as i32 => return Err((7, place, 0)),
             _ => {}
         }
     }
@@ -229,15 +260,17 @@ impl Tables {
 const NOTHING: Found = Found {
     number: 0,
     place: 0,
+    column: 0,
     plan: 0,
     cost: 0,
     length: 0,
 };
 
-fn refused((number, place): (u32, usize)) -> Found {
+fn refused((number, place, column): Refusal) -> Found {
     Found {
         number,
         place,
+        column,
         ..NOTHING
     }
 }
@@ -291,7 +324,7 @@ pub fn short_run(sheet: &[u8], patterns: &[u32], masks: bool) -> Found {
         Err(refusal) => return refused(refusal),
     };
     if let Some(at) = patterns.iter().position(|&p| p >> t.f != 0) {
-        return refused((11, at + 1));
+        return refused((11, at + 1, 0));
     }
     if masks {
         found(t.best(&Masks::new(&t), patterns), 0)
@@ -301,9 +334,10 @@ pub fn short_run(sheet: &[u8], patterns: &[u32], masks: bool) -> Found {
 }
 
 pub fn rating(sheet: &[u8], plan: u32) -> Rated {
-    let refused = |(number, place)| Rated {
+    let refused = |(number, place, column)| Rated {
         number,
         place,
+        column,
         cost: 0,
         sound: 0,
         pattern: 0,
@@ -314,14 +348,14 @@ pub fn rating(sheet: &[u8], plan: u32) -> Rated {
         Err(refusal) => return refused(refusal),
     };
     if plan >> t.a != 0 {
-        return refused((10, 0));
+        return refused((10, 0, 0));
     }
     let missed = t.first_missed(plan);
     Rated {
         cost: t.literals().cost(plan),
         sound: u32::from(missed.is_none()),
         pattern: missed.unwrap_or(0),
-        ..refused((0, 0))
+        ..refused((0, 0, 0))
     }
 }
 

@@ -121,6 +121,7 @@ fn run_brute(job: &Job, sheet: &[u8], list: &mut Vec<u32>) -> Outcome {
         Outcome::Found(Found {
             number: x.number,
             place: x.place,
+            column: x.column,
             plan: x.plan,
             cost: x.cost,
             length: x.length,
@@ -140,6 +141,7 @@ fn run_brute(job: &Job, sheet: &[u8], list: &mut Vec<u32>) -> Outcome {
             Outcome::Rated(Rated {
                 number: x.number,
                 place: x.place,
+                column: x.column,
                 cost: x.cost,
                 sound: x.sound,
                 pattern: x.pattern,

@@ -99,7 +99,7 @@ static void print_pattern(uint32_t pattern)
 
 int main(int argc, char **argv)
 {
-    size_t sheet_len, place, length, i;
+    size_t sheet_len, place, column, length, i;
     uint32_t number, plan, cost;
 
     if (argc > 2) {
@@ -107,15 +107,18 @@ int main(int argc, char **argv)
         return 2;
     }
     sheet_len = argc == 2 ? read_sheet(argv[1]) : take_built_in();
-    number = comzsered_answer(sheet, sheet_len, list, COMZSERED_LIST_MAX, &place, &plan, &cost,
-                              &length);
+    number = comzsered_answer(sheet, sheet_len, list, COMZSERED_LIST_MAX, &place, &column, &plan,
+                              &cost, &length);
     if (number == 0) {
         print_plan(plan, cost);
     } else if (number == 8) {
         printf("No plan passes every pattern.\n");
     } else {
         /* The table in comzsered.h says what the number means. */
-        printf("Refused: number %lu, place %lu\n", (unsigned long)number, (unsigned long)place);
+        printf("Refused: number %lu, place %lu", (unsigned long)number, (unsigned long)place);
+        if (number == 2)
+            printf(", column %lu", (unsigned long)column);
+        printf("\n");
         return 1;
     }
     printf("Listed patterns: %lu\n", (unsigned long)length);

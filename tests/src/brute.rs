@@ -20,6 +20,7 @@ pub const PROGRAM_ROOM: usize = 4_096;
 pub struct Found {
     pub number: u32,
     pub place: usize,
+    pub column: usize,
     pub plan: u32,
     pub cost: u32,
     pub length: usize,
@@ -30,6 +31,7 @@ pub struct Found {
 pub struct Rated {
     pub number: u32,
     pub place: usize,
+    pub column: usize,
     pub cost: u32,
     pub sound: u32,
     pub pattern: u32,
@@ -37,20 +39,22 @@ pub struct Rated {
 }
 
 impl From<Refusal> for Found {
-    fn from(Refusal { number, place }: Refusal) -> Found {
+    fn from(refusal: Refusal) -> Found {
         Found {
-            number,
-            place,
+            number: refusal.number,
+            place: refusal.place,
+            column: refusal.column,
             ..Found::default()
         }
     }
 }
 
 impl From<Refusal> for Rated {
-    fn from(Refusal { number, place }: Refusal) -> Rated {
+    fn from(refusal: Refusal) -> Rated {
         Rated {
-            number,
-            place,
+            number: refusal.number,
+            place: refusal.place,
+            column: refusal.column,
             ..Rated::default()
         }
     }
@@ -294,9 +298,15 @@ pub fn listing(bytes: &[u8]) -> String {
     }
 }
 
-/// What the program prints for a sheet that is turned down.
-pub fn refused_listing(Refusal { number, place }: Refusal) -> String {
-    line('A', number as usize, place, 0) + &line('Z', 1, 0, 0)
+/// What the program prints for a sheet that is turned down. The third number is the column of a
+/// malformed line. After any other refusal it is the cost, and both are 0 then.
+pub fn refused_listing(refusal: Refusal) -> String {
+    let Refusal {
+        number,
+        place,
+        column,
+    } = refusal;
+    line('A', number as usize, place, column) + &line('Z', 1, 0, 0)
 }
 
 #[cfg(test)]
@@ -350,7 +360,11 @@ mod tests {
     }
 
     fn refused(number: u32, place: usize) -> Result<Sheet, Refusal> {
-        Err(Refusal { number, place })
+        Err(Refusal {
+            number,
+            place,
+            column: 0,
+        })
     }
 
     #[test]
@@ -486,6 +500,28 @@ mod tests {
         assert_eq!([0, 1].map(|p| never_broken.cost(p)), [0, 1]);
     }
 
+    /// Every job passes the column on.
+    #[test]
+    fn the_column_of_a_malformed_line() {
+        let bytes = b"H    1    0    0\nR    -    0    0\nZ    2    0    0\n";
+        let refusal = read(bytes).unwrap_err();
+        let found = Found {
+            number: 2,
+            place: 2,
+            column: 6,
+            ..Found::default()
+        };
+        let rated = Rated {
+            number: 2,
+            place: 2,
+            column: 6,
+            ..Rated::default()
+        };
+        assert_eq!(Found::from(refusal), found);
+        assert_eq!(Rated::from(refusal), rated);
+        assert_eq!(listing(bytes), "A    2    2    6\nZ    1    0    0\n");
+    }
+
     /// What is known changes nothing.
     #[test]
     fn small_and_large() {
@@ -512,6 +548,6 @@ mod tests {
         let printed = "A    8    0    0\nF    1    1    0\nF    2    0    0\nZ    3    0    0\n";
         assert_eq!(no_plan, printed);
         let malformed = listing(include_bytes!("../../examples/malformed.sheet"));
-        assert_eq!(malformed, "A    2    4    0\nZ    1    0    0\n");
+        assert_eq!(malformed, "A    2    4   15\nZ    1    0    0\n");
     }
 }

@@ -480,9 +480,41 @@ fn rewritten(r: &mut Random, field: &[u8]) -> Vec<u8> {
     bytes
 }
 
+/// Texts that nearly are numbers, and in which the column of the first wrong byte is easily mistaken.
+#[rustfmt::skip]
+const NEARLY: &[&[u8; COLUMNS]] = &[
+    b"     ", b"    -", b"   -0", b"   05", b" -040", b"   3 ", b" 4  7", b"-  12",
+];
+
+/// Numbers of every width, with and without a minus.
+const WIDTHS: &[i32] = &[0, 7, 42, 305, 1_000, 54_321, -3, -15, -404, -1_234];
+
+/// Makes the line stop at any column: a byte is put there, mostly one that can stand in a number and
+/// not here. In a field the bytes before it become the beginning of a number.
+fn stop_line(r: &mut Random, line: &mut [u8]) {
+    if r.one_in(3) {
+        let start = 1 + COLUMNS * r.below(FIELDS);
+        line[start..start + COLUMNS].copy_from_slice(&r.pick(NEARLY)[..]);
+        return;
+    }
+    let at = r.below(LINE);
+    let in_field = (1..LINE - 1).contains(&at).then(|| (at - 1) % COLUMNS);
+    if let Some(before) = in_field {
+        let number = format!("{:>COLUMNS$}", r.pick(WIDTHS));
+        line[at - before..at].copy_from_slice(&number.as_bytes()[..before]);
+    }
+    // A field may begin with a space or a minus.
+    let wrong: &[u8] = if in_field == Some(0) { b"0" } else { b"0 -" };
+    line[at] = if r.one_in(3) {
+        odd_byte(r)
+    } else {
+        r.pick(wrong)
+    };
+}
+
 fn damage_text(r: &mut Random, line: &mut [u8]) {
     let start = 1 + COLUMNS * r.below(FIELDS);
-    match r.below(10) {
+    match r.below(12) {
         0 => line[r.below(LINE)] = odd_byte(r),
         1 => line[start + r.below(COLUMNS)] = odd_byte(r),
         2 => line[start + COLUMNS - 1] = r.pick(b"- +"),
@@ -501,6 +533,7 @@ fn damage_text(r: &mut Random, line: &mut [u8]) {
         5 => line[LINE - 1] = r.pick(b"\r \0\x0b\x0c\x8a\xff0Z\n"),
         6 => line.rotate_left(1),
         7 => line.rotate_right(1),
+        8 | 9 => stop_line(r, line),
         _ => line[start..start + COLUMNS].copy_from_slice(&r.pick(FIELD_TEXTS)[..]),
     }
 }
@@ -622,7 +655,7 @@ fn pile_on_line(r: &mut Random, rows: &mut [Row], at: usize, damages: usize) -> 
 }
 
 /// What a string is made by, one after another by its index, so that each comes equally often.
-pub const RECIPES: [&str; 16] = [
+pub const RECIPES: [&str; 17] = [
     "valid",
     "valid, one number damaged on the H line",
     "one number",
@@ -639,10 +672,12 @@ pub const RECIPES: [&str; 16] = [
     "bytes",
     "noise",
     "length",
+    "columns of one line",
 ];
 
-/// The recipes that begin from a whole sheet, undamaged ones left out.
-pub(crate) const DAMAGES: [usize; 11] = [1, 2, 3, 4, 5, 6, 7, 10, 11, 12, 13];
+/// The recipes that begin from a whole sheet, undamaged ones left out. That of the columns stands
+/// here twice, as there are many columns.
+pub(crate) const DAMAGES: [usize; 13] = [1, 2, 3, 4, 5, 6, 7, 10, 11, 12, 13, 16, 16];
 
 /// The byte string of this seed and index.
 pub fn string(seed: u64, index: u64) -> Vec<u8> {
@@ -745,6 +780,14 @@ pub(crate) fn damaged(r: &mut Random, recipe: usize, mut rows: Vec<Row>) -> Vec<
             }
             bytes
         }
+        16 => {
+            let mut lines = written(&rows);
+            let at = r.below(lines.len());
+            for _ in 0..1 + r.below(2) {
+                stop_line(r, &mut lines[at]);
+            }
+            lines.concat()
+        }
         _ => written(&rows).concat(),
     }
 }
@@ -752,7 +795,7 @@ pub(crate) fn damaged(r: &mut Random, recipe: usize, mut rows: Vec<Row>) -> Vec<
 #[cfg(test)]
 mod tests {
     use super::*;
-    use crate::oracle::{read, TOO_MANY};
+    use crate::oracle::{read, MALFORMED, TOO_MANY};
     use std::collections::BTreeSet;
 
     #[test]
@@ -769,6 +812,19 @@ mod tests {
         for index in (0..8_000).step_by(RECIPES.len()) {
             assert!(read(&string(1, index)).is_ok(), "index {index}");
         }
+    }
+
+    /// Lines stop at every column, within the strings of one seed.
+    #[test]
+    fn every_column_is_reached() {
+        let mut columns = [0; LINE];
+        for index in 0..8_000 {
+            match read(&string(1, index)) {
+                Err(refusal) if refusal.number == MALFORMED => columns[refusal.column - 1] += 1,
+                _ => {}
+            }
+        }
+        assert!(columns.iter().all(|&n| n >= 25), "{columns:?}");
     }
 
     /// The sheets that the comparison relies on do come, within the strings of one seed.

@@ -4,6 +4,7 @@
 pub mod brute;
 pub mod effort;
 pub mod generate;
+pub mod malformed;
 pub mod options;
 pub mod oracle;
 pub mod planning;

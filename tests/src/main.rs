@@ -13,8 +13,11 @@ use std::sync::Mutex;
 use std::time::Instant;
 
 use planner_tests::generate::{sheet, string, RECIPES};
+use planner_tests::malformed::placed;
 use planner_tests::options;
-use planner_tests::oracle::{read, Refusal, Sheet, LITERALS, MAX_GATES, MAX_RULES, MAX_WISHES};
+use planner_tests::oracle::{
+    read, Refusal, Sheet, LINE, LITERALS, MAX_GATES, MAX_RULES, MAX_WISHES,
+};
 use planner_tests::process::difference;
 use planner_tests::SAMPLE;
 
@@ -28,6 +31,8 @@ const STOP_AFTER: u64 = 20;
 /// The refusals of a sheet, 0 standing for none, and at how many places each has to come.
 /// Numbers 1 and 4 have one place only.
 const FEWEST_PLACES: [usize; 8] = [1, 1, 20, 20, 1, 20, 20, 20];
+/// How many strings have to be refused at each column.
+const FEWEST_IN_A_COLUMN: u64 = 15;
 
 const USAGE: &str = "usage: compare PROGRAM [--count N] [--seed S]";
 
@@ -40,7 +45,7 @@ fn main() -> ExitCode {
     let mut tally = compare(&options);
     tally.show();
     tally.judge(options.strings());
-    for example in examples() {
+    for example in examples().into_iter().chain(malformed()) {
         tally.add_example(&options.program, &example);
     }
     println!("{} passed, {} failed", tally.passed, tally.failed);
@@ -81,7 +86,7 @@ fn options() -> Option<Options> {
 fn listing(outcome: &Result<Sheet, Refusal>) -> String {
     let mut text = String::new();
     let sheet = match outcome {
-        Err(Refusal { number, place }) => return format!("{number} {place}\n0 0 0 0 0\n"),
+        Err(refusal) => return refused_listing(*refusal),
         Ok(sheet) => sheet,
     };
     let Sheet {
@@ -92,7 +97,7 @@ fn listing(outcome: &Result<Sheet, Refusal>) -> String {
         wishes,
     } = sheet;
     let (gate_count, rule_count, wish_count) = (gates.len(), rules.len(), wishes.len());
-    text += "0 0\n";
+    text += "0 0 0\n";
     let _ = writeln!(
         text,
         "{switches} {faults} {gate_count} {rule_count} {wish_count}"
@@ -113,6 +118,16 @@ fn listing(outcome: &Result<Sheet, Refusal>) -> String {
     text
 }
 
+/// What it is to print for a sheet that is turned down.
+fn refused_listing(refusal: Refusal) -> String {
+    let Refusal {
+        number,
+        place,
+        column,
+    } = refusal;
+    format!("{number} {place} {column}\n0 0 0 0 0\n")
+}
+
 #[derive(Default)]
 struct Tally {
     passed: u64,
@@ -120,17 +135,22 @@ struct Tally {
     /// For each number, 0 to 7: how many strings, and at which places.
     strings: [u64; FEWEST_PLACES.len()],
     places: [BTreeSet<usize>; FEWEST_PLACES.len()],
+    /// For each column, 1 to 17: how many strings.
+    columns: [u64; LINE],
     longest_accepted: usize,
 }
 
 impl Tally {
     fn add(&mut self, length: usize, outcome: &Result<Sheet, Refusal>, ok: bool) {
-        let (number, place) = match outcome {
-            Ok(_) => (0, 0),
-            Err(refusal) => (refusal.number as usize, refusal.place),
+        let (number, place, column) = match outcome {
+            Ok(_) => (0, 0, 0),
+            Err(refusal) => (refusal.number as usize, refusal.place, refusal.column),
         };
         self.strings[number] += 1;
         self.places[number].insert(place);
+        if column > 0 {
+            self.columns[column - 1] += 1;
+        }
         if outcome.is_ok() {
             self.longest_accepted = self.longest_accepted.max(length);
         }
@@ -153,19 +173,32 @@ impl Tally {
                 self.places[number].len()
             );
         }
+        println!("column  strings");
+        for (before, strings) in self.columns.iter().enumerate() {
+            println!("{:>6}  {strings:>7}", before + 1);
+        }
         println!("longest accepted sheet: {} bytes", self.longest_accepted);
     }
 
     /// A refusal that hardly came was hardly tested: that is a failure of its own.
     fn judge(&mut self, strings: u64) {
         if strings < JUDGED_FROM {
-            println!("fewer than {JUDGED_FROM} strings: the places are not judged");
+            println!("fewer than {JUDGED_FROM} strings: places and columns are not judged");
             return;
         }
         for (number, fewest) in FEWEST_PLACES.into_iter().enumerate() {
             let places = self.places[number].len();
             if places < fewest {
                 println!("FAIL: number {number} came at {places} places, fewer than {fewest}");
+                self.failed += 1;
+            }
+        }
+        for (before, came) in self.columns.into_iter().enumerate() {
+            if came < FEWEST_IN_A_COLUMN {
+                let column = before + 1;
+                println!(
+                    "FAIL: column {column} came {came} times, fewer than {FEWEST_IN_A_COLUMN}"
+                );
                 self.failed += 1;
             }
         }
@@ -256,16 +289,22 @@ fn examples() -> Vec<Example> {
         expected: expected.into(),
     };
     let refused = |name, bytes, number, place| {
-        example(name, bytes, &format!("{number} {place}\n0 0 0 0 0\n"))
+        let column = 0;
+        let refusal = Refusal {
+            number,
+            place,
+            column,
+        };
+        example(name, bytes, &refused_listing(refusal))
     };
-    let sample_tables = "0 0\n2 2 3 1 2\n79 1 2\n79 3 4\n79 5 6\n7\n3 0 0\n5 0 0\n";
+    let sample_tables = "0 0 0\n2 2 3 1 2\n79 1 2\n79 3 4\n79 5 6\n7\n3 0 0\n5 0 0\n";
 
     let lines = |gates: usize, rules: usize, wishes: usize| {
         let short = "A 1 3; ".repeat(gates) + &"R 3; ".repeat(rules) + &"W -1 2; ".repeat(wishes);
         sheet(&format!("H 2 1; {short} Z {}", 1 + gates + rules + wishes))
     };
     let full = lines(MAX_GATES, MAX_RULES, MAX_WISHES);
-    let full_tables = "0 0\n2 1 400 64 64\n".to_string()
+    let full_tables = "0 0 0\n2 1 400 64 64\n".to_string()
         + &"65 1 3\n".repeat(MAX_GATES)
         + &"3\n".repeat(MAX_RULES)
         + &"3 4 0\n".repeat(MAX_WISHES);
@@ -277,7 +316,7 @@ fn examples() -> Vec<Example> {
         example(
             "E11, 20 switches and 16 faults",
             sheet("H 20 16; Z 1"),
-            "0 0\n20 16 0 0 0\n",
+            "0 0 0\n20 16 0 0 0\n",
         ),
         refused("E11, 21 switches", sheet("H 21 0; Z 1"), 4, 1),
         refused("E11, 17 faults", sheet("H 20 17; Z 1"), 4, 1),
@@ -301,4 +340,15 @@ fn examples() -> Vec<Example> {
         refused("rule 65", lines(3, 65, 0), 5, 69),
         refused("wish 65", lines(3, 2, 65), 5, 71),
     ]
+}
+
+/// A sheet with each malformed line.
+fn malformed() -> Vec<Example> {
+    placed()
+        .map(|(malformed, place)| Example {
+            name: malformed.why,
+            bytes: malformed.sheet(place),
+            expected: refused_listing(malformed.refusal(place)),
+        })
+        .collect()
 }

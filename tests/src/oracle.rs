@@ -1,6 +1,9 @@
 //! A second reader of planning sheets, in the plainest way, by the rules of docs/FORMAT.md alone.
 //! The proved reader is compared with it, so it shares no code and no method with that one.
 
+use std::collections::HashSet;
+use std::sync::OnceLock;
+
 /// Numbers on a line.
 pub const FIELDS: usize = 3;
 /// Columns of a number.
@@ -32,11 +35,13 @@ pub const TOO_MANY: u32 = 5;
 pub const BAD_FIELD: u32 = 6;
 pub const WRONG_COUNT: u32 = 7;
 
-/// Why a sheet is turned down, and at which line, counted from 1 (0 if at none).
+/// Why a sheet is turned down, at which line, counted from 1 (0 if at none), and at which column of
+/// a malformed line, counted from 1 (0 after any other number).
 #[derive(Clone, Copy, Debug, PartialEq, Eq)]
 pub struct Refusal {
     pub number: u32,
     pub place: usize,
+    pub column: usize,
 }
 
 /// The kind is the letter of the gate's line. A gate N has no right point, shown as 0.
@@ -70,6 +75,7 @@ pub fn read(bytes: &[u8]) -> Result<Sheet, Refusal> {
         return Err(Refusal {
             number: BAD_LENGTH,
             place: 0,
+            column: 0,
         });
     }
     let lines: Vec<&[u8]> = bytes.chunks(LINE).collect();
@@ -80,10 +86,15 @@ pub fn read(bytes: &[u8]) -> Result<Sheet, Refusal> {
             Err(Refusal {
                 number,
                 place: before + 1,
+                column: 0,
             })
         };
         let Some((letter, part, fields)) = split(line) else {
-            return refuse(MALFORMED);
+            return Err(Refusal {
+                number: MALFORMED,
+                place: before + 1,
+                column: column(line),
+            });
         };
         let first = before == 0;
         let last = before + 1 == lines.len();
@@ -146,6 +157,38 @@ fn number(field: &[u8]) -> Option<i32> {
         return None;
     }
     text.parse().ok()
+}
+
+/// The column at which a malformed line stops being the beginning of any well-formed line.
+fn column(line: &[u8]) -> usize {
+    (1..=LINE)
+        .find(|&c| !begins_a_line(&line[..c]))
+        .expect("a malformed line")
+}
+
+/// Whether a well-formed line begins with this text. Each field may hold any number, whatever the
+/// others hold, so its part of the text is looked at alone.
+fn begins_a_line(text: &[u8]) -> bool {
+    let (before_feed, feed) = text.split_at(text.len().min(LINE - 1));
+    let mut fields = before_feed[1..].chunks(COLUMNS);
+    part(text[0]).is_some()
+        && fields.all(|field| beginnings().contains(field))
+        && feed.iter().all(|&byte| byte == b'\n')
+}
+
+/// Every beginning, of one byte up to all, of every number as it is printed.
+fn beginnings() -> &'static HashSet<Vec<u8>> {
+    static MADE: OnceLock<HashSet<Vec<u8>>> = OnceLock::new();
+    MADE.get_or_init(|| {
+        let mut made = HashSet::new();
+        for n in MIN_NUMBER..=MAX_NUMBER {
+            let field = format!("{n:>COLUMNS$}");
+            for bytes in 1..=COLUMNS {
+                made.insert(field.as_bytes()[..bytes].to_vec());
+            }
+        }
+        made
+    })
 }
 
 fn sizes_allowed(fields: &[i32; FIELDS]) -> bool {
@@ -212,12 +255,17 @@ fn take(sheet: &mut Sheet, letter: u8, fields: &[i32; FIELDS]) {
 mod tests {
     use super::*;
     use crate::generate::sheet;
+    use crate::malformed::{LINES_AROUND, MALFORMED_LINES};
     use crate::SAMPLE;
 
+    /// The number and place of a refusal. There is a column after number 2 only.
     fn refused(bytes: &[u8]) -> (u32, usize) {
         match read(bytes) {
             Ok(_) => (0, 0),
-            Err(r) => (r.number, r.place),
+            Err(r) => {
+                assert_eq!(r.column != 0, r.number == MALFORMED, "{r:?}");
+                (r.number, r.place)
+            }
         }
     }
 
@@ -489,6 +537,61 @@ mod tests {
         assert_eq!(accepted, MAX_NUMBER - MIN_NUMBER + 1);
     }
 
+    /// The signs of numbers, in the order in which endings are tried.
+    const NUMBER_SIGNS: &[u8] = b"0123456789 -";
+
+    /// Whether some ending makes a well-formed line of this text: every ending of the field begun
+    /// is tried, with the number 0 in the fields after it.
+    fn can_be_ended(text: &[u8]) -> bool {
+        if text.len() == LINE {
+            return split(text).is_some();
+        }
+        let missing = (LINE - 1 - text.len()) % COLUMNS;
+        let mut line = [text, &b"H    0    0    0\n"[text.len()..]].concat();
+        (0..NUMBER_SIGNS.len().pow(missing as u32)).any(|code| {
+            let mut rest = code;
+            for byte in &mut line[text.len()..text.len() + missing] {
+                *byte = NUMBER_SIGNS[rest % NUMBER_SIGNS.len()];
+                rest /= NUMBER_SIGNS.len();
+            }
+            split(&line).is_some()
+        })
+    }
+
+    #[test]
+    fn malformed_lines() {
+        for malformed in MALFORMED_LINES {
+            for place in 1..=LINES_AROUND {
+                let got = read(&malformed.sheet(place));
+                let expected = Err(malformed.refusal(place));
+                assert_eq!(got, expected, "{}, line {place}", malformed.why);
+            }
+        }
+        let columns: HashSet<usize> = MALFORMED_LINES.iter().map(|m| m.column).collect();
+        assert_eq!(columns, (1..=LINE).collect());
+    }
+
+    /// Every byte in every column of some lines: where the damaged line is malformed, its beginnings
+    /// before the column can be ended, and the one up to the column cannot.
+    #[test]
+    fn every_damage_of_one_byte() {
+        for line in [b"A   10   -7    0\n", b"W-9999  20899999\n"] {
+            let mut malformed = [0; LINE + 1];
+            for (at, byte) in (0..LINE).flat_map(|at| (0..=255).map(move |byte| (at, byte))) {
+                let mut damaged = *line;
+                damaged[at] = byte;
+                if split(&damaged).is_some() {
+                    continue;
+                }
+                let naive = (1..=LINE).find(|&c| !can_be_ended(&damaged[..c]));
+                let got = column(&damaged);
+                assert_eq!(Some(got), naive, "{}", damaged.escape_ascii());
+                malformed[got] += 1;
+            }
+            assert!(malformed[1..].iter().all(|&n| n >= 240), "{malformed:?}");
+        }
+    }
+
     #[test]
     fn example_files() {
         let sample: &[u8] = include_bytes!("../../examples/sample.sheet");
@@ -503,8 +606,12 @@ mod tests {
             (0, 0)
         );
         assert_eq!(
-            refused(include_bytes!("../../examples/malformed.sheet")),
-            (MALFORMED, 4)
+            read(include_bytes!("../../examples/malformed.sheet")),
+            Err(Refusal {
+                number: MALFORMED,
+                place: 4,
+                column: 15
+            })
         );
     }
 }

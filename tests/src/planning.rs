@@ -773,6 +773,7 @@ fn spoilt(r: &mut Random) -> Vec<u8> {
 mod tests {
     use super::*;
     use crate::brute::{End, Planner, Run};
+    use crate::oracle::{Refusal, COLUMNS, LINE, MALFORMED};
     use std::collections::BTreeSet;
 
     /// More rounds than any sheet of the classes needs.
@@ -984,6 +985,105 @@ mod tests {
         for (name, count) in names.iter().zip(shown) {
             println!("{count:>5} sheets: {name}");
             assert!(count >= 200, "{name}: {count}");
+        }
+    }
+
+    // ---- readers that tell the column wrongly
+
+    /// A malformed line, where it stands and the column at which it stops.
+    struct Stop<'a> {
+        line: &'a [u8],
+        place: usize,
+        column: usize,
+    }
+
+    impl Stop<'_> {
+        /// The columns of its field: none if the line stops at its letter or at its line feed.
+        fn field(&self) -> Option<std::ops::RangeInclusive<usize>> {
+            let in_field = (2..LINE).contains(&self.column);
+            let first = 2 + self.column.saturating_sub(2) / COLUMNS * COLUMNS;
+            in_field.then(|| first..=first + COLUMNS - 1)
+        }
+
+        fn byte(&self, column: usize) -> u8 {
+            self.line[column - 1]
+        }
+    }
+
+    /// Ways to tell another column. Each gives the right one where it sees no cause for another.
+    const WRONG_COLUMNS: [(&str, fn(&Stop) -> usize); 13] = [
+        ("one too small", |s| s.column - 1),
+        ("one too large", |s| s.column + 1),
+        ("counted from the field's beginning", |s| {
+            s.field().map_or(s.column, |f| s.column - f.start() + 1)
+        }),
+        ("the field", |s| {
+            s.field().map_or(s.column, |f| f.end() / COLUMNS)
+        }),
+        ("the byte of the whole sheet", |s| {
+            (s.place - 1) * LINE + s.column
+        }),
+        ("the field's first column", |s| {
+            s.field().map_or(s.column, |f| *f.start())
+        }),
+        ("the field's last column", |s| {
+            s.field().map_or(s.column, |f| *f.end())
+        }),
+        ("a 0 told one column later", |s| {
+            s.column + usize::from(s.field().is_some() && s.byte(s.column) == b'0')
+        }),
+        ("a minus without a number told where it stands", |s| {
+            let after_minus = s.field().is_some() && s.byte(s.column - 1) == b'-';
+            s.column - usize::from(after_minus)
+        }),
+        ("a minus in the last column told after it", |s| {
+            let last = s.field().is_some_and(|f| s.column == *f.end());
+            s.column + usize::from(last && s.byte(s.column) == b'-')
+        }),
+        ("a blank field told after it", |s| {
+            let text = s.field().map(|f| &s.line[f.start() - 1..*f.end()]);
+            s.column + usize::from(text == Some(b"     "))
+        }),
+        ("a space after a digit told at the digit", |s| {
+            let in_field = s.field().is_some_and(|f| s.column > *f.start());
+            let after_digit = in_field && s.byte(s.column - 1).is_ascii_digit();
+            s.column - usize::from(after_digit && s.byte(s.column) == b' ')
+        }),
+        ("the line feed looked at first", |s| {
+            if s.line[LINE - 1] == b'\n' {
+                s.column
+            } else {
+                LINE
+            }
+        }),
+    ];
+
+    /// Each wrong column shows on many sheets.
+    #[test]
+    fn wrong_columns_show() {
+        let mut shown = [0; WRONG_COLUMNS.len()];
+        for index in 0..24_000 {
+            let bytes = planning_sheet(2, index).bytes;
+            let Err(refusal) = read(&bytes) else {
+                continue;
+            };
+            let Refusal { place, column, .. } = refusal;
+            if refusal.number != MALFORMED {
+                continue;
+            }
+            let line = &bytes[(place - 1) * LINE..place * LINE];
+            let stop = Stop {
+                line,
+                place,
+                column,
+            };
+            for (count, (_, told)) in shown.iter_mut().zip(WRONG_COLUMNS) {
+                *count += usize::from(told(&stop) != column);
+            }
+        }
+        for ((name, _), count) in WRONG_COLUMNS.iter().zip(shown) {
+            println!("{count:>5} sheets: {name}");
+            assert!(count >= 50, "{name}: {count}");
         }
     }
 }

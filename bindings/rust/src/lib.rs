@@ -104,11 +104,26 @@ fn digit(number: u32, k: u32, digits: u32) -> bool {
 ///
 /// let Answer::Refused(refusal) = answer(b"H    1    0    0\nO    1    2    0\nZ    2    0    0\n", &mut [])
 /// else { panic!() };
-/// assert_eq!((refusal.number, refusal.place), (6, 2));
+/// assert_eq!((refusal.number, refusal.place, refusal.column), (6, 2, 0));
 /// assert_eq!(
 ///     refusal.to_string(),
 ///     "line 2: a point or literal is not allowed here, an unused field is not 0, \
 ///      or a literal follows a 0"
+/// );
+/// ```
+///
+/// Number 2, a malformed line, also tells the column. Here it is that of the 0 before the 1: a
+/// number has no leading zero.
+///
+/// ```
+/// use comzsered::{answer, Answer};
+///
+/// let Answer::Refused(refusal) = answer(b"H    1    0    0\nR   01    0    0\nZ    2    0    0\n", &mut [])
+/// else { panic!() };
+/// assert_eq!((refusal.number, refusal.place, refusal.column), (2, 2, 5));
+/// assert_eq!(
+///     refusal.to_string(),
+///     "line 2, column 5: no well-formed line begins like this"
 /// );
 /// ```
 #[derive(Clone, Copy, Debug, PartialEq, Eq, Hash)]
@@ -116,14 +131,21 @@ pub struct Refusal {
     pub number: u32,
     /// A line or a position, counted from 1; 0 where there is none.
     pub place: usize,
+    /// The column, 1 to 17, at which a malformed line stops being the beginning of any well-formed
+    /// one, the line feed being 17; 0 where there is none, which is after every number but 2.
+    pub column: usize,
 }
 
 impl fmt::Display for Refusal {
     fn fmt(&self, f: &mut fmt::Formatter) -> fmt::Result {
-        let Refusal { number, place } = *self;
+        let Refusal {
+            number,
+            place,
+            column,
+        } = *self;
         let cause = match number {
             1 => "the sheet's length is 0, above 9,010 or no multiple of 17",
-            2 => "the line is malformed or its letter is unknown",
+            2 => "no well-formed line begins like this",
             3 => "this letter is not allowed at this line",
             4 => "the number of switches is not 0 to 20 or that of faults is not 0 to 16",
             5 => "there are more than 400 gates, 64 rules or 64 wishes",
@@ -139,7 +161,8 @@ impl fmt::Display for Refusal {
             _ => return write!(f, "refused with number {number}, place {place}"),
         };
         match number {
-            2..=7 => write!(f, "line {place}: {cause}"),
+            2 => write!(f, "line {place}, column {column}: {cause}"),
+            3..=7 => write!(f, "line {place}: {cause}"),
             11 => write!(f, "pattern {place} of the given ones: {cause}"),
             _ => write!(f, "{cause}"),
         }
@@ -203,6 +226,7 @@ impl From<Found> for Answer {
             number => Answer::Refused(Refusal {
                 number,
                 place: found.place,
+                column: found.column,
             }),
         }
     }
@@ -219,6 +243,7 @@ impl From<Found> for ShortRun {
             number => ShortRun::Refused(Refusal {
                 number,
                 place: found.place,
+                column: found.column,
             }),
         }
     }
@@ -236,6 +261,7 @@ impl From<Rated> for Rating {
             (number, _) => Rating::Refused(Refusal {
                 number,
                 place: rated.place,
+                column: rated.column,
             }),
         }
     }
@@ -285,7 +311,8 @@ pub fn rating(sheet: &[u8], plan: Plan) -> Rating {
 }
 
 /// What the program `plan` prints for this sheet: the answer with a list of 4,096 words, in lines
-/// of 17 bytes.
+/// of 17 bytes. The first line has the number, the place and the cost; after number 2 the column
+/// stands there instead of the cost.
 ///
 /// ```
 /// let sheet = b"H    0    1    0\nR    1    0    0\nZ    2    0    0\n";
@@ -321,8 +348,20 @@ mod tests {
     const FOLLOWER: &str = "H 1 1; N 1; N 2; A 1 2; A 3 4; O 5 6; R 7; Z 7";
 
     fn refused(number: u32, place: usize) -> Refusal {
-        Refusal { number, place }
+        refused_at(number, place, 0)
     }
+
+    /// With a column, which the library tells after number 2 only.
+    fn refused_at(number: u32, place: usize, column: usize) -> Refusal {
+        Refusal {
+            number,
+            place,
+            column,
+        }
+    }
+
+    /// The second line has a minus without a digit.
+    const MALFORMED: &[u8] = b"H    1    0    0\nW    1    -    0\nZ    2    0    0\n";
 
     #[test]
     fn answers() {
@@ -350,6 +389,8 @@ mod tests {
         assert_eq!(answer(b"", &mut list), wrong);
         let wrong = Answer::Refused(refused(7, 2));
         assert_eq!(answer(&sheet("H; Z 2"), &mut list), wrong);
+        let wrong = Answer::Refused(refused_at(2, 2, 11));
+        assert_eq!(answer(MALFORMED, &mut list), wrong);
         assert_eq!(list, [77; 4]);
     }
 
@@ -370,6 +411,10 @@ mod tests {
             short_run(&sheet("H"), &[9]),
             ShortRun::Refused(refused(3, 1))
         );
+        assert_eq!(
+            short_run(MALFORMED, &[9]),
+            ShortRun::Refused(refused_at(2, 2, 11))
+        );
     }
 
     #[test]
@@ -386,6 +431,10 @@ mod tests {
             rating(&sheet("H 21"), Plan(0)),
             Rating::Refused(refused(3, 1))
         );
+        assert_eq!(
+            rating(MALFORMED, Plan(9)),
+            Rating::Refused(refused_at(2, 2, 11))
+        );
     }
 
     #[test]
@@ -400,6 +449,8 @@ F    1    0    0
 Z    6    0    0
 ";
         assert_eq!(listing(&sheet(SAMPLE)), printed.as_bytes());
+        let printed = b"A    2    2   11\nZ    1    0    0\n";
+        assert_eq!(listing(MALFORMED), printed);
         let mut short = vec![77; LISTING_MAX - 1];
         assert_eq!(figures::listing(&sheet(SAMPLE), &mut short), 0);
         assert!(short.iter().all(|&byte| byte == 77));
@@ -412,12 +463,13 @@ Z    6    0    0
             let found = Found {
                 number,
                 place: 5,
+                column: 9,
                 plan: 6,
                 cost: 7,
                 length: 8,
             };
             let (plan, cost, patterns) = (Plan(6), 7, 8);
-            let refusal = refused(number, 5);
+            let refusal = refused_at(number, 5, 9);
             let (answer, short_run) = match number {
                 0 => (
                     Answer::Plan {
@@ -442,6 +494,7 @@ Z    6    0    0
             let rated = |sound| Rated {
                 number,
                 place: 5,
+                column: 9,
                 cost: 7,
                 sound,
                 pattern: 3,
@@ -456,7 +509,7 @@ Z    6    0    0
                     },
                 ),
                 _ => {
-                    let refusal = Rating::Refused(refused(number, 5));
+                    let refusal = Rating::Refused(refused_at(number, 5, 9));
                     (refusal, refusal)
                 }
             };
@@ -472,7 +525,9 @@ Z    6    0    0
             said(1, 0),
             "the sheet's length is 0, above 9,010 or no multiple of 17"
         );
-        for number in 2..=7 {
+        let column = refused_at(2, 7, 12).to_string();
+        assert!(column.starts_with("line 7, column 12: "), "{column}");
+        for number in 3..=7 {
             assert!(said(number, 12).starts_with("line 12: "), "{number}");
         }
         assert!(!said(10, 0).contains('0'));

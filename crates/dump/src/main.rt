@@ -1,5 +1,5 @@
 // The reader's test program: prints the tables that `sheet::read` gives for the sheet on standard input. All numbers are decimal:
-// a line of number and place, one of the five counts, then a line for each gate (its letter's byte first), rule and wish.
+// a line of number, place and column, one of the five counts, then a line for each gate (its letter's byte first), rule and wish.
 ghost use Prim.Native.Nat.{_≤_};
 use libc::STDIN_FILENO;
 use libc::STDOUT_FILENO;
@@ -76,6 +76,7 @@ fn put_wishes(u: Tables)
 fn put_counts(u: Tables) {
     put(u.number as u64);
     next(u.place as u64);
+    next(u.column as u64);
     end();
     put(u.switches as u64);
     next(u.faults as u64);

@@ -44,12 +44,12 @@ fn put_plan(
     at
 }
 
-// The listing, at the beginning of `out`. Returns its length.
+// The listing, at the beginning of `out`; number, place and figure stand on its A line. Returns its length.
 pub fn put_listing(
     out: &mut [u8],
     number: u32,
     place: u32,
-    cost: u32,
+    figure: u32,
     found: bool,
     a: u32,
     plan: Plan,
@@ -58,10 +58,10 @@ pub fn put_listing(
     third: &[u32],
     list: &[u32],
 ) -> usize
-    requires { ⌜ Clauses a (now first) (now second) (now third) × (71094 ≤ length (now out)) × (number < 100000) × (place < 100000) × (cost < 100000) × (length (now list) ≤ 4096) × Small (now list) ⌝ }
-    ensures { λ r. ⌜ Wrote (now (out .entry)) 0 (listingRows number place cost (planRowsOf found a (plan .0) (wishesOf (now (first .entry)) (now (second .entry)) (now (third .entry)))) (now (list .entry))) (now (out .exit)) r ⌝ }
+    requires { ⌜ Clauses a (now first) (now second) (now third) × (71094 ≤ length (now out)) × (number < 100000) × (place < 100000) × (figure < 100000) × (length (now list) ≤ 4096) × Small (now list) ⌝ }
+    ensures { λ r. ⌜ Wrote (now (out .entry)) 0 (listingRows number place figure (planRowsOf found a (plan .0) (wishesOf (now (first .entry)) (now (second .entry)) (now (third .entry)))) (now (list .entry))) (now (out .exit)) r ⌝ }
 {
-    put_row(out, 0, row(ANSWER, number, place, cost));
+    put_row(out, 0, row(ANSWER, number, place, figure));
     let middle = put_plan(out, ROW_SIZE, found, a, plan, first, second, third);
     put_patterns(out, middle, list);
     let end = middle + ROW_SIZE * list.len();

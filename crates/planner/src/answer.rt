@@ -19,7 +19,7 @@ fn run_outcome(run: Run) -> Outcome
 {
     let full = run.full;
     if full {
-        return refused(NO_ROOM, 0, run.length);
+        return refused(NO_ROOM, 0, 0, run.length);
     }
     let best = run.best;
     best_outcome(best, run.length)
@@ -31,7 +31,7 @@ pub fn answer(s: &[u8], list: &mut [u32]) -> Outcome
 {
     let t = sheet::read(s);
     if t.number != 0 {
-        return refused(t.number, t.place, 0);
+        return refused(t.number, t.place, t.column, 0);
     }
     let kind = t.kind;
     let left = t.left;
@@ -78,11 +78,11 @@ pub fn short_run(s: &[u8], patterns: &[u32]) -> Outcome
 {
     let t = sheet::read(s);
     if t.number != 0 {
-        return refused(t.number, t.place, 0);
+        return refused(t.number, t.place, t.column, 0);
     }
     let high = first_high(patterns, circuit::rule::power(t.faults));
     if high != 0 {
-        return refused(HIGH_PATTERN, high, 0);
+        return refused(HIGH_PATTERN, high, 0, 0);
     }
     let kind = t.kind;
     let left = t.left;

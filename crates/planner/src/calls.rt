@@ -17,14 +17,16 @@ pub extern "C" fn comzsered_answer(
     sheet: &[u8],
     list: &mut [u32],
     place: &mut usize,
+    column: &mut usize,
     plan: &mut u32,
     cost: &mut u32,
     length: &mut usize,
 ) -> u32
-    ensures { λ r. ⌜ answered (figures r (now (place .exit)) (now (plan .exit)) (now (cost .exit)) (now (length .exit))) (now (list .exit)) ≡ jobs.answer (now (sheet .entry)) (now (list .entry)) ⌝ }
+    ensures { λ r. ⌜ answered (figures r (now (place .exit)) (now (column .exit)) (now (plan .exit)) (now (cost .exit)) (now (length .exit))) (now (list .exit)) ≡ jobs.answer (now (sheet .entry)) (now (list .entry)) ⌝ }
 {
     let r = answer(sheet, list);
     *place = r.place;
+    *column = r.column;
     *plan = r.plan.0;
     *cost = r.cost;
     *length = r.length;
@@ -36,14 +38,16 @@ pub extern "C" fn comzsered_short_run(
     sheet: &[u8],
     patterns: &[u32],
     place: &mut usize,
+    column: &mut usize,
     plan: &mut u32,
     cost: &mut u32,
     length: &mut usize,
 ) -> u32
-    ensures { λ r. ⌜ figures r (now (place .exit)) (now (plan .exit)) (now (cost .exit)) (now (length .exit)) ≡ jobs.shortRun (now (sheet .entry)) (now (patterns .entry)) ⌝ }
+    ensures { λ r. ⌜ figures r (now (place .exit)) (now (column .exit)) (now (plan .exit)) (now (cost .exit)) (now (length .exit)) ≡ jobs.shortRun (now (sheet .entry)) (now (patterns .entry)) ⌝ }
 {
     let r = short_run(sheet, patterns);
     *place = r.place;
+    *column = r.column;
     *plan = r.plan.0;
     *cost = r.cost;
     *length = r.length;
@@ -61,15 +65,17 @@ pub extern "C" fn comzsered_rating(
     sheet: &[u8],
     plan: u32,
     place: &mut usize,
+    column: &mut usize,
     cost: &mut u32,
     sound: &mut u32,
     pattern: &mut u32,
     length: &mut usize,
 ) -> u32
-    ensures { λ r. ⌜ ratingFigures (jobs.rating (now (sheet .entry)) plan) ≡ r ∷ now (place .exit) ∷ now (cost .exit) ∷ now (sound .exit) ∷ now (pattern .exit) ∷ now (length .exit) ∷ [] ⌝ }
+    ensures { λ r. ⌜ ratingFigures (jobs.rating (now (sheet .entry)) plan) ≡ r ∷ now (place .exit) ∷ now (column .exit) ∷ now (cost .exit) ∷ now (sound .exit) ∷ now (pattern .exit) ∷ now (length .exit) ∷ [] ⌝ }
 {
     let r = rate(sheet, Plan(plan));
     *place = r.place;
+    *column = r.column;
     *cost = r.cost;
     *sound = flag(r.sound);
     *pattern = r.pattern.0;

@@ -6,14 +6,17 @@ ghost use Rattle.scope.specs.Jobs.{refusal};
 ghost use Rattle.planner.specs.Figures.{resultOf};
 ghost use Rattle.planner.specs.laws.Jobs.{bestFigures};
 
-// The number is 0 with a plan; otherwise it says why there is none, and the place where.
+// The number is 0 with a plan; otherwise it says why there is none, and place and column where.
 pub struct Outcome {
     pub number: u32,
     pub place: usize,
+    pub column: usize,
     pub plan: Plan,
     pub cost: u32,
     pub length: usize,
 }
+
+pub const MALFORMED: u32 = 2;
 
 pub const NO_PLAN: u32 = 8;
 
@@ -24,12 +27,13 @@ pub const HIGH_PLAN: u32 = 10;
 pub const HIGH_PATTERN: u32 = 11;
 
 // Fields not named are 0 on refusal.
-pub fn refused(number: u32, place: usize, length: usize) -> Outcome
-    ensures { λ r. ⌜ resultOf r ≡ refusal number place length ⌝ }
+pub fn refused(number: u32, place: usize, column: usize, length: usize) -> Outcome
+    ensures { λ r. ⌜ resultOf r ≡ refusal number place column length ⌝ }
 {
     Outcome {
         number,
         place,
+        column,
         plan: Plan(0),
         cost: 0,
         length,
@@ -41,10 +45,11 @@ pub fn best_outcome(best: Best, length: usize) -> Outcome
     ensures { λ r. ⌜ resultOf r ≡ bestFigures best length ⌝ }
 {
     match best {
-        Best::Nothing => refused(NO_PLAN, 0, length),
+        Best::Nothing => refused(NO_PLAN, 0, 0, length),
         Best::At(plan, cost) => Outcome {
             number: 0,
             place: 0,
+            column: 0,
             plan,
             cost,
             length,

@@ -1,10 +1,14 @@
 // The program's listing.
 use crate::answer::answer;
+use crate::outcome::MALFORMED;
+use crate::outcome::Outcome;
 use crate::rating::wide;
 use listing::whole::MOST_BYTES;
 use listing::whole::put_listing;
 ghost use mathlib.Core.Path.{_≡_};
 ghost use Prim.Native.Nat.{_<_};
+ghost use Rattle.scope.specs.Program.{third};
+ghost use Rattle.planner.specs.Figures.{resultOf};
 ghost use Rattle.planner.specs.laws.Listing.{listingInto, listingLength};
 
 // The list that the program lends.
@@ -15,6 +19,17 @@ fn narrow(n: usize) -> u32
     ensures { λ r. ⌜ r ≡ n ⌝ }
 {
     n as u32
+}
+
+// The third number of the A line: the column of a malformed line, and otherwise the cost.
+fn figure(r: Outcome) -> u32
+    requires { ⌜ third (resultOf r) < 100000 ⌝ }
+    ensures { λ n. ⌜ n ≡ third (resultOf r) ⌝ }
+{
+    if r.number == MALFORMED {
+        return narrow(r.column);
+    }
+    r.cost
 }
 
 // Puts what the program prints for a sheet at the beginning of `out`, and returns its length. A buffer
@@ -38,7 +53,7 @@ pub fn print_listing(s: &[u8], out: &mut [u8]) -> usize
         out,
         r.number,
         place,
-        r.cost,
+        figure(r),
         r.number == 0,
         t.switches,
         r.plan,

@@ -11,18 +11,20 @@ ghost use Rattle.planner.specs.Figures.{ratingOf};
 pub struct Rating {
     pub number: u32,
     pub place: usize,
+    pub column: usize,
     pub cost: u32,
     pub sound: bool,
     pub pattern: Pattern,
     pub length: usize,
 }
 
-fn unrated(number: u32, place: usize) -> Rating
-    ensures { λ r. ⌜ ratingOf r ≡ jobs.unrated number place ⌝ }
+fn unrated(number: u32, place: usize, column: usize) -> Rating
+    ensures { λ r. ⌜ ratingOf r ≡ jobs.unrated number place column ⌝ }
 {
     Rating {
         number,
         place,
+        column,
         cost: 0,
         sound: false,
         pattern: Pattern(0),
@@ -37,6 +39,7 @@ fn rated(cost: u32, missed: Missed) -> Rating
         Missed::Nothing => Rating {
             number: 0,
             place: 0,
+            column: 0,
             cost,
             sound: true,
             pattern: Pattern(0),
@@ -45,6 +48,7 @@ fn rated(cost: u32, missed: Missed) -> Rating
         Missed::At(pattern) => Rating {
             number: 0,
             place: 0,
+            column: 0,
             cost,
             sound: false,
             pattern,
@@ -64,10 +68,10 @@ pub fn rate(s: &[u8], plan: Plan) -> Rating
 {
     let t = sheet::read(s);
     if t.number != 0 {
-        return unrated(t.number, t.place);
+        return unrated(t.number, t.place, t.column);
     }
     if circuit::rule::power(t.switches) <= plan.0 {
-        return unrated(HIGH_PLAN, 0);
+        return unrated(HIGH_PLAN, 0, 0);
     }
     let kind = t.kind;
     let left = t.left;

@@ -1,13 +1,13 @@
 -- What is claimed of the definitions, each claim with its proof. Assumes nothing.
-use Prim.Native.Nat.{ℕ, _+_, _≤_, _<_}
+use Prim.Native.Nat.{ℕ, _+_, _-_, _≤_, _<_}
 use mathlib.Core.Bool.{true, false, cond}
 use mathlib.Core.List.{List, [], _∷_, _++_, List·Memᴰ, Perm}
 use mathlib.Core.Logic.{_↔_}
-use mathlib.Core.Option.{some}
+use mathlib.Core.Option.{none, some}
 use mathlib.Core.Path.{_≡_}
 use Rattle.scope.specs.Sheet.{Number, number, field, fits, Line, Clause, Gate, Sheet, sheet, sheetBytes, fieldCount, All, Valid}
-use Rattle.scope.specs.Reading.{fieldOf, lineOf, accepted, refused, read}
-use Rattle.scope.specs.Causes.{Cause, SheetRefusal}
+use Rattle.scope.specs.Reading.{fieldOf, lineOf, columnOf, accepted, refused, lineSize, read}
+use Rattle.scope.specs.Causes.{Printed, Begins, Cause, SheetRefusal}
 use lib.ListN.{length, getD, take}
 use Rattle.scope.specs.Meaning.{plans, patterns, literalTrue, switchOn, kept, cost}
 use Rattle.scope.specs.Jobs.{task, answer, shortRun, rating}
@@ -15,7 +15,7 @@ use Rattle.scope.specs.Demands.{list, Demand2, Demand3, ShortRun, Rates}
 use Rattle.scope.specs.Program.{outputRows}
 use Rattle.scope.specs.laws.Fields as fields
 use Rattle.scope.specs.laws.Lines as lines
-use Rattle.scope.specs.laws.Lines.{Printed}
+use Rattle.scope.specs.laws.Beginnings as beginnings
 use Rattle.scope.specs.laws.Refusals as refusals
 use Rattle.scope.specs.laws.Inverse as inverse
 use Rattle.scope.specs.laws.Wishes as wishes
@@ -36,6 +36,14 @@ field-read = fields.field-iff
 pub line-read : (n : ℕ) (s : List ℕ) (l : Line) → (lineOf n s ≡ some l) ↔ Printed n s l
 line-read = lines.line-iff
 
+-- its column is the smallest c such that its first c bytes are the beginning of no well-formed line
+pub column-told : (n : ℕ) (s : List ℕ) (c : ℕ) → (columnOf n s ≡ some c) ↔ (Begins n (take (c - 1) s) × ¬ Begins n (take c s))
+column-told = beginnings.column-iff
+
+-- and a whole line has none exactly if it is well-formed
+pub no-column : (n : ℕ) (s : List ℕ) → lineSize n ≤ length s → (columnOf n s ≡ none) ↔ ((l : Line) × Printed n s l)
+no-column = beginnings.column-none
+
 -- a sheet is accepted exactly if it is a valid one, printed
 pub sheet-read : (n : ℕ) → 3 ≤ n → (s : List ℕ) (t : Sheet) → (read n s ≡ accepted t) ↔ ((s ≡ sheetBytes n t) × Valid t)
 sheet-read = inverse.read-iff
@@ -45,11 +53,11 @@ pub sheet-printed-once : (n : ℕ) → 3 ≤ n → (t u : Sheet) → Valid t →
 sheet-printed-once = inverse.printed-once
 
 -- it is refused exactly if the cause is there and no earlier one is
-pub sheet-refused : (n : ℕ) (s : List ℕ) (c place : ℕ) → (read n s ≡ refused c place) ↔ Cause n s c place
+pub sheet-refused : (n : ℕ) (s : List ℕ) (c place column : ℕ) → (read n s ≡ refused c place column) ↔ Cause n s c place column
 sheet-refused = refusals.refused-iff
 
--- by one of the numbers 1 to 7; 4 names line 1
-pub refusal-number : (n : ℕ) (s : List ℕ) {c place : ℕ} → Cause n s c place → SheetRefusal c place
+-- by one of the numbers 1 to 7; 4 names line 1, and 2 alone has a column, one of its line's
+pub refusal-number : (n : ℕ) (s : List ℕ) {c place column : ℕ} → Cause n s c place column → SheetRefusal n c place column
 refusal-number = refusals.cause-number
 
 -- ---- plans

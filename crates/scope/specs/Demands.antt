@@ -35,14 +35,16 @@ list t = whole (task t) .words
 
 pub record Demand2 (t : Sheet) (lent : List ℕ) (a : Answer) : Type 0 where
   pub plan : (p : ℕ) → (a .result ≡ found p (cost t p) (length (list t))) ↔ ((length (list t) ≤ length lent) × Best t (Sound t) p)
-  pub no-plan : (a .result ≡ refusal 8 0 (length (list t))) ↔ ((length (list t) ≤ length lent) × ((p : ℕ) → ¬ Sound t p))
-  pub no-room : (a .result ≡ refusal 9 0 (length lent)) ↔ (length lent < length (list t))
+  pub no-plan : (a .result ≡ refusal 8 0 0 (length (list t))) ↔ ((length (list t) ≤ length lent) × ((p : ℕ) → ¬ Sound t p))
+  pub no-room : (a .result ≡ refusal 9 0 0 (length lent)) ↔ (length lent < length (list t))
   pub words : a .list ≡ over (take (length lent) (list t)) lent
 
 -- ---- demand 3: Answer, and then Short run over the words that it listed
 
 pub record Same (r q : Result) : Type 0 where
   pub number : r .number ≡ q .number
+  pub place : r .place ≡ q .place
+  pub column : r .column ≡ q .column
   pub plan : r .plan ≡ q .plan
   pub cost : r .cost ≡ q .cost
 
@@ -70,22 +72,23 @@ pub record Pair (t : Sheet) (lent : List ℕ) (r : Result) (l : List ℕ) (short
   pub unfinished : r .number ≡ 9 → (length l < length (list t)) × Misses t (short l) (getD (list t) (length l) 0)
 
 pub record Demand3 (s lent : List ℕ) : Type 0 where
-  -- the same verdict, plan and cost after a plan, "no plan" or a refused sheet
+  -- the same verdict (with its place and column), plan and cost after a plan, "no plan" or a refused sheet
   pub agrees : answer s lent .result .number ≢ 9 → Same (answer s lent .result) (shortRun s (listed (answer s lent)))
-  pub turned-down : (c place : ℕ) → read fieldCount s ≡ refused c place → (listed (answer s lent) ≡ []) × (answer s lent .list ≡ lent)
+  pub turned-down : (c place column : ℕ) → read fieldCount s ≡ refused c place column → (listed (answer s lent) ≡ []) × (answer s lent .list ≡ lent)
   pub lists : (t : Sheet) → read fieldCount s ≡ accepted t → Pair t lent (answer s lent .result) (listed (answer s lent)) (shortRun s)
 
 -- ---- Short run: the best plan that passes the given patterns
 
 pub record ShortRun (t : Sheet) (l : List ℕ) (r : Result) : Type 0 where
   pub plan : (p : ℕ) → (r ≡ found p (cost t p) 0) ↔ Best t (Passes t l) p
-  pub no-plan : (r ≡ refusal 8 0 0) ↔ ((p : ℕ) → ¬ Passes t l p)
+  pub no-plan : (r ≡ refusal 8 0 0 0) ↔ ((p : ℕ) → ¬ Passes t l p)
 
 -- ---- Rating
 
 pub record Rates (t : Sheet) (p : ℕ) (r : Rating) : Type 0 where
   pub number : r .number ≡ 0
   pub place : r .place ≡ 0
+  pub column : r .column ≡ 0
   pub cost : r .cost ≡ cost t p
   pub sound : (r .sound ≡ true) ↔ Sound t p
   pub pattern : r .sound ≡ false → (r .pattern < patterns t) × (passes t p (r .pattern) ≡ false)

@@ -8,7 +8,7 @@ use mathlib.Core.Path.{_≡_, refl}
 use lib.ListN.{replicate}
 use Rattle.scope.specs.Text.{bytes, lines}
 use Rattle.scope.specs.Sheet.{Gate, sheet, number, plus, fieldCount, decimal, field, fieldsBytes, All}
-use Rattle.scope.specs.Reading.{fieldOf, fieldsOf, letterOf, lineOf, zeros, literals, clause, rows, make, Read, accepted, refused, lineAt, testsAt, readFrom, read}
+use Rattle.scope.specs.Reading.{fieldOf, fieldsOf, letterOf, lineOf, zeros, literals, clause, rows, make, Read, accepted, refused, lineAt, columnAt, columnOf, testsAt, readFrom, read}
 use Rattle.scope.specs.Meaning.{bits, truths, truth, passes, keeps, broken, switchOn, kept, cost}
 use Rattle.scope.specs.Pick.{pick}
 use Rattle.scope.specs.Rule.{best, missed, short, next, rule}
@@ -27,34 +27,39 @@ Example = List String × Read
 abbrev examples : List Example
 examples =
     -- E1, E3
-    ([], refused 1 0)
+    ([], refused 1 0 0)
     ∷ (sample, accepted (sheet 2 2 (Gate.or 1 2 ∷ Gate.or 3 4 ∷ Gate.or 5 6 ∷ []) (7 ∷ []) ((number true 1 ∷ []) ∷ (number true 2 ∷ []) ∷ [])))
     -- E11
     ∷ ("H   20   16    0" ∷ "Z    1    0    0" ∷ [], accepted (sheet 20 16 [] [] []))
-    ∷ ("H   21    0    0" ∷ "Z    1    0    0" ∷ [], refused 4 1)
-    ∷ ("H   20   17    0" ∷ "Z    1    0    0" ∷ [], refused 4 1)
+    ∷ ("H   21    0    0" ∷ "Z    1    0    0" ∷ [], refused 4 1 0)
+    ∷ ("H   20   17    0" ∷ "Z    1    0    0" ∷ [], refused 4 1 0)
     -- E12: point 2 is the gate itself
-    ∷ ("H    1    0    0" ∷ "O    1    2    0" ∷ "Z    2    0    0" ∷ [], refused 6 2)
+    ∷ ("H    1    0    0" ∷ "O    1    2    0" ∷ "Z    2    0    0" ∷ [], refused 6 2 0)
     -- E13
-    ∷ ("H    1    0    0" ∷ "W    0    1    0" ∷ "Z    2    0    0" ∷ [], refused 6 2)
-    ∷ ("H    0    0    0" ∷ "Z    2    0    0" ∷ [], refused 7 2)
-    ∷ ("H    0    0    0" ∷ [], refused 3 1)
-    -- malformed: a minus zero, a leading zero, a blank field, a letter that is none
-    ∷ ("H    0   -0    0" ∷ "Z    1    0    0" ∷ [], refused 2 1)
-    ∷ ("H    0    0    0" ∷ "Z   01    0    0" ∷ [], refused 2 2)
-    ∷ ("H    0    0     " ∷ "Z    1    0    0" ∷ [], refused 2 1)
-    ∷ ("H    0    0    0" ∷ "z    1    0    0" ∷ [], refused 2 2)
+    ∷ ("H    1    0    0" ∷ "W    0    1    0" ∷ "Z    2    0    0" ∷ [], refused 6 2 0)
+    ∷ ("H    0    0    0" ∷ "Z    2    0    0" ∷ [], refused 7 2 0)
+    ∷ ("H    0    0    0" ∷ [], refused 3 1 0)
+    -- malformed, with the column: a minus zero, a leading zero, a blank field, a letter that is none
+    ∷ ("H    0   -0    0" ∷ "Z    1    0    0" ∷ [], refused 2 1 11)
+    ∷ ("H    0    0    0" ∷ "Z   01    0    0" ∷ [], refused 2 2 5)
+    ∷ ("H    0    0     " ∷ "Z    1    0    0" ∷ [], refused 2 1 16)
+    ∷ ("H    0    0    0" ∷ "z    1    0    0" ∷ [], refused 2 2 1)
+    -- a minus in the last column, a space after a digit, a minus after one, a byte that is no line feed
+    ∷ ("H    -    0    0" ∷ "Z    1    0    0" ∷ [], refused 2 1 6)
+    ∷ ("H    0    0    0" ∷ "Z    1   1     0" ∷ [], refused 2 2 11)
+    ∷ ("H    0    0  2-1" ∷ "Z    1    0    0" ∷ [], refused 2 1 15)
+    ∷ ("H    0    0    0" ∷ "Z    1    0    00H    0    0    0" ∷ [], refused 2 2 17)
     -- several causes: the first line counts, and on it the first test
-    ∷ ("H   21    0    1" ∷ "Q    1    0    0" ∷ [], refused 4 1)
-    ∷ ("H    1    0    0" ∷ "Z    9    9    0" ∷ "R    7    0    0" ∷ [], refused 3 2)
-    ∷ ("H    1    0    0" ∷ "Z    9    9    0" ∷ [], refused 6 2)
-    ∷ ("H    1    0    0" ∷ replicate 64 "R    1    0    0" ++ "R    0    0    0" ∷ "Z   66    0    0" ∷ [], refused 5 66)
-    ∷ ("H    1    0    0" ∷ "W    1    0    0" ∷ replicate 64 "R    1    0    0" ++ "R    0    0    0" ∷ "Z   67    0    0" ∷ [], refused 3 3)
+    ∷ ("H   21    0    1" ∷ "Q    1    0    0" ∷ [], refused 4 1 0)
+    ∷ ("H    1    0    0" ∷ "Z    9    9    0" ∷ "R    7    0    0" ∷ [], refused 3 2 0)
+    ∷ ("H    1    0    0" ∷ "Z    9    9    0" ∷ [], refused 6 2 0)
+    ∷ ("H    1    0    0" ∷ replicate 64 "R    1    0    0" ++ "R    0    0    0" ∷ "Z   66    0    0" ∷ [], refused 5 66 0)
+    ∷ ("H    1    0    0" ∷ "W    1    0    0" ∷ replicate 64 "R    1    0    0" ++ "R    0    0    0" ∷ "Z   67    0    0" ∷ [], refused 3 3 0)
     ∷ []
 
 pub reading : All (λ e. read fieldCount (lines (e .0)) ≡ e .1) examples
-unfolding read readFrom testsAt lineAt lineOf letterOf fieldsOf fieldOf field decimal rows zeros make literals clause
-reading = (refl, (refl, (refl, (refl, (refl, (refl, (refl, (refl, (refl, (refl, (refl, (refl, (refl, (refl, (refl, (refl, (refl, (refl, tt))))))))))))))))))
+unfolding read readFrom testsAt lineAt columnAt columnOf pick fieldsBytes lineOf letterOf fieldsOf fieldOf field decimal rows zeros make literals clause
+reading = (refl, (refl, (refl, (refl, (refl, (refl, (refl, (refl, (refl, (refl, (refl, (refl, (refl, (refl, (refl, (refl, (refl, (refl, (refl, (refl, (refl, (refl, tt))))))))))))))))))))))
 
 pub printing : (field (plus 0) ≡ bytes "    0") × (field (plus 99999) ≡ bytes "99999") × (field (number true 12) ≡ bytes "  -12") × (field (number true 9999) ≡ bytes "-9999")
 unfolding field decimal
@@ -80,21 +85,25 @@ room = replicate 4 7
 abbrev e4 : List String
 e4 = "H    0    1    0" ∷ "R    1    0    0" ∷ "Z    2    0    0" ∷ []
 
+-- with a leading zero
+abbrev misprint : List String
+misprint = "H    2    2    0" ∷ "O    1  002    0" ∷ "Z    2    0    0" ∷ []
+
 abbrev pub table : List Row
 table =
     -- E1: the empty sheet
-    answers [] room (answered (refusal 1 0 0) room)
+    answers [] room (answered (refusal 1 0 0 0) room)
     -- E2
     ∷ answers ("H    0    0    0" ∷ "Z    1    0    0" ∷ []) room (answered (found 0 0 0) room)
     -- E3
     ∷ answers sample room (answered (found 1 1 1) (0 ∷ 7 ∷ 7 ∷ 7 ∷ []))
     -- E4, and E5 with no room
-    ∷ answers e4 room (answered (refusal 8 0 1) (0 ∷ 7 ∷ 7 ∷ 7 ∷ []))
-    ∷ answers e4 [] (answered (refusal 9 0 0) [])
+    ∷ answers e4 room (answered (refusal 8 0 0 1) (0 ∷ 7 ∷ 7 ∷ 7 ∷ []))
+    ∷ answers e4 [] (answered (refusal 9 0 0 0) [])
     -- E6
     ∷ answers ("H    1    1    0" ∷ "R    1    0    0" ∷ "W   -1    0    0" ∷ "Z    3    0    0" ∷ []) room (answered (found 1 1 1) (0 ∷ 7 ∷ 7 ∷ 7 ∷ []))
     -- E7: the list is as long as there are plans, and patterns
-    ∷ answers ("H    1    1    0" ∷ "N    1    0    0" ∷ "N    2    0    0" ∷ "A    1    2    0" ∷ "A    3    4    0" ∷ "O    5    6    0" ∷ "R    7    0    0" ∷ "Z    7    0    0" ∷ []) room (answered (refusal 8 0 2) (1 ∷ 0 ∷ 7 ∷ 7 ∷ []))
+    ∷ answers ("H    1    1    0" ∷ "N    1    0    0" ∷ "N    2    0    0" ∷ "A    1    2    0" ∷ "A    3    4    0" ∷ "O    5    6    0" ∷ "R    7    0    0" ∷ "Z    7    0    0" ∷ []) room (answered (refusal 8 0 0 2) (1 ∷ 0 ∷ 7 ∷ 7 ∷ []))
     -- E8: a wish written twice counts twice
     ∷ answers ("H    1    0    0" ∷ "R    1    0    0" ∷ "W   -1    0    0" ∷ "W   -1    0    0" ∷ "Z    4    0    0" ∷ []) room (answered (found 1 2 1) (0 ∷ 7 ∷ 7 ∷ 7 ∷ []))
     -- also in another order
@@ -107,17 +116,26 @@ table =
     ∷ runs sample [] (found 0 0 0)
     ∷ runs sample (0 ∷ []) (found 1 1 0)
     -- E14: a pattern and a plan that there is not, and ratings
-    ∷ runs sample (3 ∷ 4 ∷ []) (refusal 11 2 0)
+    ∷ runs sample (3 ∷ 4 ∷ []) (refusal 11 2 0 0)
     ∷ rates sample 3 (rated 2 none)
     ∷ rates sample 0 (rated 0 (some 0))
-    ∷ rates sample 4 (unrated 10 0)
+    ∷ rates sample 4 (unrated 10 0 0)
+    -- a malformed line: every job tells its column
+    ∷ answers misprint room (answered (refusal 2 2 9 0) room)
+    ∷ runs misprint (0 ∷ []) (refusal 2 2 9 0)
+    ∷ rates misprint 4 (unrated 2 2 9)
     ∷ []
 
 pub table-holds : All Holds table
-unfolding answer shortRun rating read readFrom testsAt lineAt lineOf letterOf fieldsOf fieldOf field decimal rows zeros make literals clause rule next best missed short pick passes truth truths bits cost broken keeps switchOn
-table-holds = (refl, (refl, (refl, (refl, (refl, (refl, (refl, (refl, (refl, (refl, (refl, (refl, (refl, (refl, (refl, (refl, (refl, tt)))))))))))))))))
+unfolding answer shortRun rating read readFrom testsAt lineAt columnAt columnOf fieldsBytes lineOf letterOf fieldsOf fieldOf field decimal rows zeros make literals clause rule next best missed short pick passes truth truths bits cost broken keeps switchOn
+table-holds = (refl, (refl, (refl, (refl, (refl, (refl, (refl, (refl, (refl, (refl, (refl, (refl, (refl, (refl, (refl, (refl, (refl, (refl, (refl, (refl, tt))))))))))))))))))))
 
 -- ---- the program, on the sample
 pub printed : output (lines sample) ≡ lines ("A    0    0    1" ∷ "S    1    0    0" ∷ "S    2    1    0" ∷ "W    1    1    0" ∷ "W    2    0    0" ∷ "F    1    0    0" ∷ "Z    6    0    0" ∷ [])
 unfolding output outputRows rowsBytes fieldsBytes each answer read readFrom testsAt lineAt lineOf letterOf fieldsOf fieldOf field decimal rows zeros make literals clause rule next best missed short pick passes truth truths bits cost kept broken keeps switchOn
 printed = refl
+
+-- after 2 the third number of the A line is the column
+pub told : output (lines misprint) ≡ lines ("A    2    2    9" ∷ "Z    1    0    0" ∷ [])
+unfolding output outputRows rowsBytes fieldsBytes each answer read readFrom testsAt lineAt columnAt columnOf pick lineOf letterOf fieldsOf fieldOf field decimal rows zeros make literals clause
+told = refl

@@ -18,22 +18,23 @@ task t = record { passes = passes t; cost = cost t; plans = plans t; patterns = 
 pub record Result : Type 0 where
   pub number : ℕ
   pub place : ℕ
+  pub column : ℕ
   pub plan : ℕ
   pub cost : ℕ
   pub length : ℕ
 
 -- fields not named are 0 on refusal
-abbrev pub refusal : ℕ → ℕ → ℕ → Result
-refusal n place l = record { number = n; place = place; plan = 0; cost = 0; length = l }
+abbrev pub refusal : (number place column length : ℕ) → Result
+refusal n place column l = record { number = n; place = place; column = column; plan = 0; cost = 0; length = l }
 
 abbrev pub found : ℕ → ℕ → ℕ → Result
-found p c l = record { number = 0; place = 0; plan = p; cost = c; length = l }
+found p c l = record { number = 0; place = 0; column = 0; plan = p; cost = c; length = l }
 
 -- 8: no plan; 9: the list is longer than its room
 abbrev pub result : Sheet → Verdict → ℕ → Result
 result t (plan p) l = found p (cost t p) l
-result t noPlan l = refusal 8 0 l
-result t noRoom l = refusal 9 0 l
+result t noPlan l = refusal 8 0 0 l
+result t noRoom l = refusal 9 0 0 l
 
 -- ---- Answer, the full run: the result, and the lent list afterwards
 
@@ -52,7 +53,7 @@ abbrev pub answerOf : Read → List ℕ → Answer
 answerOf (accepted t) lent =
     let r : Run = rule (task t) (length lent) [] in
     answered (result t (r .verdict) (length (r .words))) (over (r .words) lent)
-answerOf (refused n place) lent = answered (refusal n place 0) lent
+answerOf (refused n place column) lent = answered (refusal n place column 0) lent
 
 unfoldable pub answer : List ℕ → List ℕ → Answer
 answer s lent = answerOf (read fieldCount s) lent
@@ -67,11 +68,11 @@ firstHigh bound i (q ∷ l) = cond (ltb q bound) (firstHigh bound (suc i) l) (so
 -- 11: a given pattern is 2^f or more
 abbrev pub shortBelow : Sheet → List ℕ → Option ℕ → Result
 shortBelow t l none = result t (short (task t) l) 0
-shortBelow t l (some i) = refusal 11 i 0
+shortBelow t l (some i) = refusal 11 i 0 0
 
 abbrev pub shortOf : Read → List ℕ → Result
 shortOf (accepted t) l = shortBelow t l (firstHigh (patterns t) 1 l)
-shortOf (refused n place) l = refusal n place 0
+shortOf (refused n place column) l = refusal n place column 0
 
 unfoldable pub shortRun : List ℕ → List ℕ → Result
 shortRun s l = shortOf (read fieldCount s) l
@@ -81,22 +82,23 @@ shortRun s l = shortOf (read fieldCount s) l
 pub record Rating : Type 0 where
   pub number : ℕ
   pub place : ℕ
+  pub column : ℕ
   pub cost : ℕ
   pub sound : Bool
   pub pattern : ℕ
   pub length : ℕ
 
-abbrev pub unrated : ℕ → ℕ → Rating
-unrated n place = record { number = n; place = place; cost = 0; sound = false; pattern = 0; length = 0 }
+abbrev pub unrated : (number place column : ℕ) → Rating
+unrated n place column = record { number = n; place = place; column = column; cost = 0; sound = false; pattern = 0; length = 0 }
 
 abbrev pub rated : ℕ → Option ℕ → Rating
-rated c none = record { number = 0; place = 0; cost = c; sound = true; pattern = 0; length = 0 }
-rated c (some q) = record { number = 0; place = 0; cost = c; sound = false; pattern = q; length = 0 }
+rated c none = record { number = 0; place = 0; column = 0; cost = c; sound = true; pattern = 0; length = 0 }
+rated c (some q) = record { number = 0; place = 0; column = 0; cost = c; sound = false; pattern = q; length = 0 }
 
 -- 10: the rated plan is 2^a or more
 abbrev pub ratingOf : Read → ℕ → Rating
-ratingOf (accepted t) p = cond (ltb p (plans t)) (rated (cost t p) (missed (task t) p)) (unrated 10 0)
-ratingOf (refused n place) p = unrated n place
+ratingOf (accepted t) p = cond (ltb p (plans t)) (rated (cost t p) (missed (task t) p)) (unrated 10 0 0)
+ratingOf (refused n place column) p = unrated n place column
 
 unfoldable pub rating : List ℕ → ℕ → Rating
 rating s p = ratingOf (read fieldCount s) p

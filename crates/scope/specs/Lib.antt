@@ -1,10 +1,10 @@
 -- to believe, in reading order
 pub mod Text
 pub mod Sheet
+pub mod Pick
 pub mod Reading
 pub mod Causes
 pub mod Meaning
-pub mod Pick
 pub mod Rule
 pub mod Jobs
 pub mod Demands

@@ -47,10 +47,14 @@ planRows t plan = each switchRow 1 (bits (t .switches) plan) ++ each (wishRow t 
 -- only when the number is 0
 abbrev pub foundRows : Read → Result → List Row
 foundRows (accepted t) r = cond (eqb (r .number) 0) (planRows t (r .plan)) []
-foundRows (refused n place) r = []
+foundRows (refused n place column) r = []
+
+-- after 2 the column, and otherwise the cost
+abbrev pub third : Result → ℕ
+third r = cond (eqb (r .number) 2) (r .column) (r .cost)
 
 abbrev pub answerRows : Read → Answer → List Row
-answerRows o a = row "A" (a .result .number) (a .result .place) (a .result .cost) ∷ foundRows o (a .result) ++ each patternRow 1 (listed a)
+answerRows o a = row "A" (a .result .number) (a .result .place) (third (a .result)) ∷ foundRows o (a .result) ++ each patternRow 1 (listed a)
 
 -- Z counts the lines before it
 abbrev pub ended : List Row → List Row

@@ -1,12 +1,13 @@
--- What reading gives for every list of bytes: a sheet, or the number and place of the first cause to turn it down. Assumes nothing.
+-- What reading gives for every list of bytes: a sheet, or the number, place and column of the first cause to turn it down. Assumes nothing.
 use Prim.Native.Nat.{ℕ, zero, suc, _+_, _-_, _*_, _/_, _%_}
 use Prim.Native.Char.{code}
 use mathlib.Core.Bool.{Bool, true, false, cond, not, _&&_, _||_}
 use mathlib.Core.List.{List, [], _∷_, _++_}
-use mathlib.Core.Option.{Option, none, some}
+use mathlib.Core.Option.{Option, none, some, Option·getD}
 use lib.Dec.{eqb, leb, ltb}
-use lib.ListN.{length, getD, take, drop}
-use Rattle.scope.specs.Sheet.{Number, number, plus, Clause, Gate, Sheet, sheet, points, fieldSize, field, fits, Letter, H, N, A, O, R, W, Z, letterByte, Line, line, mostSwitches, mostFaults, mostGates, mostRules, mostWishes, mostLiterals}
+use lib.ListN.{length, getD, take, drop, replicate}
+use Rattle.scope.specs.Sheet.{Number, number, plus, Clause, Gate, Sheet, sheet, points, fieldSize, field, fits, Letter, H, N, A, O, R, W, Z, letterByte, Line, line, lineBytes, mostSwitches, mostFaults, mostGates, mostRules, mostWishes, mostLiterals}
+use Rattle.scope.specs.Pick.{pick}
 
 -- ---- a line read: guess a number from the bytes, and compare what it prints; `line-read` (Claims) says all of it
 
@@ -62,6 +63,23 @@ joined (some c) (some xs) = some (line c xs)
 unfoldable pub lineOf : ℕ → List ℕ → Option Line
 lineOf n [] = none
 lineOf n (b ∷ s) = joined (letterOf b) (fieldsOf n s)
+
+-- ---- the column of a malformed line; `column-told` (Claims) says all of it
+
+-- a beginning of a well-formed line, put over the beginning of this one, leaves a well-formed line
+abbrev pub model : ℕ → List ℕ
+model n = lineBytes (line H (replicate n (plus 11111)))
+
+abbrev pub formed : {A : Type 0} → Option A → Bool
+formed none = false
+formed (some a) = true
+
+abbrev pub begins : ℕ → List ℕ → Bool
+begins n p = formed (lineOf n (p ++ drop (length p) (model n)))
+
+-- the smallest c such that the first c bytes begin no well-formed line
+unfoldable pub columnOf : ℕ → List ℕ → Option ℕ
+columnOf n s = pick (λ c. 0) (λ c. not (begins n (take c s))) (suc (length s))
 
 -- ---- what may stand in a field
 
@@ -165,11 +183,11 @@ add t (some l) = make t (l .letter) (l .fields)
 
 pub data Read : Type 0 where
   accepted : Sheet → Read
-  refused : (number place : ℕ) → Read
+  refused : (number place column : ℕ) → Read
 
-abbrev pub onward : Option ℕ → ℕ → Read → Read
-onward none place more = more
-onward (some c) place more = refused c place
+abbrev pub onward : Option ℕ → (place column : ℕ) → Read → Read
+onward none place column more = more
+onward (some c) place column more = refused c place column
 
 module _ (n : ℕ) where
   abbrev pub lineSize : ℕ
@@ -186,8 +204,15 @@ module _ (n : ℕ) where
   lineCount s = length s / lineSize
 
   -- line k, counted from 0
+  abbrev pub bytesAt : List ℕ → ℕ → List ℕ
+  bytesAt s k = take lineSize (drop (k * lineSize) s)
+
   unfoldable pub lineAt : List ℕ → ℕ → Option Line
-  lineAt s k = lineOf n (take lineSize (drop (k * lineSize) s))
+  lineAt s k = lineOf n (bytesAt s k)
+
+  -- 0 if it is well-formed
+  unfoldable pub columnAt : List ℕ → ℕ → ℕ
+  columnAt s k = Option·getD (columnOf n (bytesAt s k)) 0
 
   unfoldable pub testsAt : List ℕ → Sheet → ℕ → List Row
   testsAt s t k = tests t k (eqb (suc k) (lineCount s)) (lineAt s k)
@@ -195,7 +220,7 @@ module _ (n : ℕ) where
   -- m lines from line k on, after lines that say t
   unfoldable pub readFrom : List ℕ → ℕ → ℕ → Sheet → Read
   readFrom s zero k t = accepted t
-  readFrom s (suc m) k t = onward (firstFault (testsAt s t k)) (suc k) (readFrom s m (suc k) (add t (lineAt s k)))
+  readFrom s (suc m) k t = onward (firstFault (testsAt s t k)) (suc k) (columnAt s k) (readFrom s m (suc k) (add t (lineAt s k)))
 
   unfoldable pub read : List ℕ → Read
-  read s = cond (lengthOk (length s)) (readFrom s (lineCount s) 0 (started 0 0)) (refused 1 0)
+  read s = cond (lengthOk (length s)) (readFrom s (lineCount s) 0 (started 0 0)) (refused 1 0 0)

@@ -1,7 +1,9 @@
 -- what is proved of the definitions
 pub mod Tests
 pub mod Fields
+pub mod Digits
 pub mod Lines
+pub mod Beginnings
 pub mod Refusals
 pub mod Steps
 pub mod Inverse

@@ -1,14 +1,17 @@
 -- How the code reads a field, column by column: in no promise of an exported call. Assumes nothing.
-use Prim.Native.Nat.{ℕ, _+_, _-_, _*_}
+use Prim.Native.Nat.{ℕ, _+_, _-_, _*_, _≤_}
 use Prim.Native.Char.{code}
 use mathlib.Core.Bool.{Bool, true, false, _&&_}
 use mathlib.Core.List.{List, [], _∷_}
+use mathlib.Core.Logic.{_≢_}
 use mathlib.Core.Option.{Option, none, some}
+use mathlib.Core.Path.{_≡_}
 use lib.Dec.{eqb, leb, ltb}
 use lib.ListN.{length}
 use Rattle.scope.specs.Sheet as scope
-use Rattle.scope.specs.Sheet.{number}
-use Rattle.scope.specs.Reading.{when}
+use Rattle.scope.specs.Sheet.{number, fieldSize}
+use Rattle.scope.specs.Reading.{when, fieldOf}
+use Rattle.scope.specs.laws.Beginnings.{Stop, fieldBegins}
 use Rattle.sheet.specs.declared.field.Scan.{Scan}
 use Rattle.sheet.specs.declared.field.Scan.the-variants.{Blank, Minus, Number, Bad}
 use Rattle.sheet.specs.declared.field.Number as made
@@ -37,9 +40,16 @@ next Minus b left = pick (eqb b (code "0")) Bad (withDigit true 0 b)
 next (Number m n) b left = withDigit m n b
 next Bad b left = Bad
 
-unfoldable pub walk : Scan → List ℕ → Scan
-walk st [] = st
-walk st (b ∷ s) = walk (next st b (length s)) s
+-- the bytes s, with `left` columns after them
+unfoldable pub walk : Scan → List ℕ → ℕ → Scan
+walk st [] left = st
+walk st (b ∷ s) left = walk (next st b (length s + left)) s left
+
+abbrev pub bad : Scan → Bool
+bad Blank = false
+bad Minus = false
+bad (Number m n) = false
+bad Bad = true
 
 abbrev pub found : Scan → Option scope.Number
 found Blank = none
@@ -53,4 +63,10 @@ abbrev pub numberFrom : made.Number → scope.Number
 numberFrom x = number (x .minus) (x .size)
 
 unfoldable pub fieldFrom : Field → Option scope.Number
-fieldFrom f = when (f .formed) (numberFrom (f .number))
+fieldFrom f = when (eqb (f .column) 0) (numberFrom (f .number))
+
+-- f is what the five columns t hold
+pub record FieldRead (t : List ℕ) (f : Field) : Type 0 where
+  pub number : fieldFrom f ≡ fieldOf t
+  pub within : f .column ≤ fieldSize
+  pub stops : f .column ≢ 0 → Stop fieldBegins t (f .column)

@@ -39,10 +39,11 @@ literalCode x = cond (x .minus) (x .size * 2 + 1) (x .size * 2)
 abbrev pub literalAt : ℕ → Clause → ℕ
 literalAt i w = literalCode (getD w i (plus 0))
 
-unfoldable pub tables : (number place : ℕ) → Sheet → Tables
-tables n k t = record {
+unfoldable pub tables : (number place column : ℕ) → Sheet → Tables
+tables n k c t = record {
   number = n;
   place = k;
+  column = c;
   switches = t .switches;
   faults = t .faults;
   gates = length (t .gates);
@@ -58,11 +59,11 @@ tables n k t = record {
 }
 
 abbrev pub filled : Sheet → Tables
-filled t = tables 0 0 t
+filled t = tables 0 0 0 t
 
-abbrev pub refusal : (number place : ℕ) → Tables
-refusal n k = tables n k (started 0 0)
+abbrev pub refusal : (number place column : ℕ) → Tables
+refusal n k c = tables n k c (started 0 0)
 
 abbrev pub outcome : Read → Tables
 outcome (accepted t) = filled t
-outcome (refused n k) = refusal n k
+outcome (refused n k c) = refusal n k c

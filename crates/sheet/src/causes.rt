@@ -147,7 +147,7 @@ pub fn line_fault(c: Counts, l: Line, k: usize, last: bool, n: usize) -> u32
     requires { ⌜ Few c × (3 ≤ n) × (n ≤ 4) ⌝ }
     ensures { λ r. ⌜ ((t : Sheet) → Counted t c → Fault (tests t k last (lineFrom n l)) r) ⌝ }
 {
-    if l.formed {
+    if l.column == 0 {
         let letter = l.letter;
         let xs = l.numbers;
         return letter_fault(c, letter, xs, k, last, n);

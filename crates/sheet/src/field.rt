@@ -1,11 +1,9 @@
-// A field: a number right-justified with spaces in five columns, read column by column.
+// A field: a number right-justified with spaces in five columns, read column by column up to the first byte that fits nothing.
 ghost use mathlib.Core.Path.{_≡_};
-ghost use mathlib.Core.Bool.{true, false};
 ghost use Prim.Native.Nat.{_+_, _≤_};
 ghost use lib.ListN.{length, take, drop};
 ghost use Rattle.scope.specs.Sheet.{fieldSize};
-ghost use Rattle.scope.specs.Reading.{fieldOf};
-ghost use Rattle.sheet.specs.Columns.{unlessLast, withDigit, next, found, fieldFrom};
+ghost use Rattle.sheet.specs.Columns.{unlessLast, withDigit, next, bad, found, fieldFrom, FieldRead};
 
 pub const FIELD_SIZE: usize = 5;
 
@@ -28,7 +26,8 @@ pub struct Number {
 
 // What five columns hold; the number counts only where they are formed.
 pub struct Field {
-    pub formed: bool,
+    // where they stop being the beginning of any number, from 1; 0 if they are formed
+    pub column: usize,
     pub number: Number,
 }
 
@@ -111,11 +110,22 @@ fn column(st: Scan, b: u8, left: usize) -> Scan
     }
 }
 
-fn none() -> Field
-    ensures { λ r. ⌜ r .formed ≡ false ⌝ }
+fn is_bad(st: Scan) -> bool
+    ensures { λ r. ⌜ r ≡ bad st ⌝ }
+{
+    match st {
+        Scan::Blank => false,
+        Scan::Minus => false,
+        Scan::Number(_, _) => false,
+        Scan::Bad => true,
+    }
+}
+
+fn stopped(column: usize) -> Field
+    ensures { λ r. ⌜ r .column ≡ column ⌝ }
 {
     Field {
-        formed: false,
+        column,
         number: Number {
             minus: false,
             size: 0,
@@ -123,29 +133,33 @@ fn none() -> Field
     }
 }
 
+// All five columns are read.
 fn field_of(st: Scan) -> Field
-    ensures { λ r. ⌜ fieldFrom r ≡ found st ⌝ }
+    ensures { λ r. ⌜ (fieldFrom r ≡ found st) × (r .column ≤ fieldSize) ⌝ }
 {
     match st {
-        Scan::Blank => none(),
-        Scan::Minus => none(),
+        Scan::Blank => stopped(FIELD_SIZE),
+        Scan::Minus => stopped(FIELD_SIZE),
         Scan::Number(minus, size) => Field {
-            formed: true,
+            column: 0,
             number: Number { minus, size },
         },
-        Scan::Bad => none(),
+        Scan::Bad => stopped(FIELD_SIZE),
     }
 }
 
 // The five columns from `at`.
 pub fn field_at(s: &[u8], at: usize) -> Field
     requires { ⌜ at + fieldSize ≤ length (now s) ⌝ }
-    ensures { λ r. ⌜ fieldFrom r ≡ fieldOf (take fieldSize (drop at (now (s .entry)))) ⌝ }
+    ensures { λ r. ⌜ FieldRead (take fieldSize (drop at (now (s .entry)))) r ⌝ }
 {
     let mut st = Scan::Blank;
     let mut i = 0;
     while i < FIELD_SIZE {
         st = column(st, s[at + i], FIELD_SIZE - 1 - i);
+        if is_bad(st) {
+            return stopped(i + 1);
+        }
         i += 1;
     }
     field_of(st)

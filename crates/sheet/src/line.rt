@@ -3,8 +3,8 @@ ghost use mathlib.Core.Path.{_≡_};
 ghost use Prim.Native.Nat.{_+_, _*_, _≤_, _<_};
 ghost use lib.ListN.{length, take, drop};
 ghost use Rattle.scope.specs.Sheet.{fieldSize};
-ghost use Rattle.scope.specs.Reading.{letterOf, fieldsOf, lineOf, lineSize, at};
-ghost use Rattle.sheet.specs.Lines.{letterFrom, numbersFrom, fieldsFrom, lineFrom};
+ghost use Rattle.scope.specs.Reading.{letterOf, formed, lineSize, at};
+ghost use Rattle.sheet.specs.Lines.{letterFrom, numbersFrom, FieldsRead, LineRead, lineColumn};
 ghost use Rattle.sheet.specs.Columns.{numberFrom};
 use crate::field;
 use crate::field::FIELD_SIZE;
@@ -39,16 +39,17 @@ pub enum Letter {
     Unknown,
 }
 
-// The fields before a line feed; the numbers count only where all of it is formed.
+// The fields and the line feed; the numbers count only where all of it is formed.
 pub struct Fields {
-    pub formed: bool,
+    // where they stop being the beginning of any, from 1; 0 if they are formed
+    pub column: usize,
     pub numbers: [Number; MOST_FIELDS],
 }
 
 pub struct Line {
     pub letter: Letter,
-    // whether the fields and the line feed are
-    pub formed: bool,
+    // where the line, its letter being column 1, stops being the beginning of any; 0 if it is formed
+    pub column: usize,
     pub numbers: [Number; MOST_FIELDS],
 }
 
@@ -67,10 +68,10 @@ fn letter_of(b: u8) -> Letter
     }
 }
 
-// The n fields from `at`, up to the first that is not formed.
+// The n fields from `at` and the line feed, up to the first byte that fits nothing.
 fn fields_at(s: &[u8], at: usize, n: usize) -> Fields
     requires { ⌜ (n ≤ 4) × (at + (n * fieldSize + 1) ≤ length (now s)) ⌝ }
-    ensures { λ r. ⌜ fieldsFrom n r ≡ fieldsOf n (take (n * fieldSize + 1) (drop at (now (s .entry)))) ⌝ }
+    ensures { λ r. ⌜ FieldsRead n (take (n * fieldSize + 1) (drop at (now (s .entry)))) r ⌝ }
 {
     let mut numbers = [Number {
         minus: false,
@@ -79,9 +80,9 @@ fn fields_at(s: &[u8], at: usize, n: usize) -> Fields
     let mut i = 0;
     while i < n {
         let f = field::field_at(s, at + i * FIELD_SIZE);
-        if !f.formed {
+        if f.column != 0 {
             return Fields {
-                formed: false,
+                column: i * FIELD_SIZE + f.column,
                 numbers,
             };
         }
@@ -89,24 +90,56 @@ fn fields_at(s: &[u8], at: usize, n: usize) -> Fields
         numbers[i] = x;
         i += 1;
     }
-    let end = s[at + n * FIELD_SIZE];
-    Fields {
-        formed: end == LINE_FEED,
-        numbers,
+    let end = n * FIELD_SIZE;
+    if s[at + end] != LINE_FEED {
+        return Fields {
+            column: end + 1,
+            numbers,
+        };
     }
+    Fields { column: 0, numbers }
+}
+
+fn is_known(letter: Letter) -> bool
+    ensures { λ r. ⌜ r ≡ formed (letterFrom letter) ⌝ }
+{
+    match letter {
+        Letter::Head => true,
+        Letter::Not => true,
+        Letter::And => true,
+        Letter::Or => true,
+        Letter::Rule => true,
+        Letter::Wish => true,
+        Letter::End => true,
+        Letter::Unknown => false,
+    }
+}
+
+// The column of a line from that of its fields.
+fn line_column(known: bool, c: usize) -> usize
+    requires { ⌜ c ≤ 21 ⌝ }
+    ensures { λ r. ⌜ r ≡ lineColumn known c ⌝ }
+{
+    if !known {
+        return 1;
+    }
+    if c == 0 {
+        return 0;
+    }
+    c + 1
 }
 
 // The line of n fields from `at`.
 pub fn line_at(s: &[u8], at: usize, n: usize) -> Line
     requires { ⌜ (n ≤ 4) × (at + lineSize n ≤ length (now s)) ⌝ }
-    ensures { λ r. ⌜ lineFrom n r ≡ lineOf n (take (lineSize n) (drop at (now (s .entry)))) ⌝ }
+    ensures { λ r. ⌜ LineRead n (take (lineSize n) (drop at (now (s .entry)))) r ⌝ }
 {
     let letter = letter_of(s[at]);
     let f = fields_at(s, at + 1, n);
     let numbers = f.numbers;
     Line {
         letter,
-        formed: f.formed,
+        column: line_column(is_known(letter), f.column),
         numbers,
     }
 }

@@ -121,7 +121,7 @@ fn read_lines(s: &[u8], n: usize, size: usize, count: usize) -> Tables
         let l = line::line_at(s, k * size, n);
         let fault = causes::line_fault(c, l, k, k + 1 == count, n);
         if fault != 0 {
-            return tables::refused(fault, k + 1);
+            return tables::refused(fault, k + 1, l.column);
         }
         let letter = l.letter;
         let xs = l.numbers;
@@ -143,6 +143,7 @@ fn read_lines(s: &[u8], n: usize, size: usize, count: usize) -> Tables
     Tables {
         number: 0,
         place: 0,
+        column: 0,
         switches: c.switches,
         faults: c.faults,
         gates: c.gates,
@@ -170,7 +171,7 @@ fn read_form(s: &[u8], n: usize) -> Tables
     if right {
         return read_lines(s, n, size, bytes / size);
     }
-    tables::refused(LENGTH, 0)
+    tables::refused(LENGTH, 0, 0)
 }
 
 // What a sheet says, or the first cause to turn it down.

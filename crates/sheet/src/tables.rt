@@ -13,11 +13,12 @@ pub const MOST_RULES: usize = 64;
 
 pub const MOST_WISHES: usize = 64;
 
-// What reading gives. Words past the counts are 0, and after a refusal all but its number and place.
+// What reading gives. Words past the counts are 0, and after a refusal all but its number, place and column.
 pub struct Tables {
     // 0, or the number of the refusal
     pub number: u32,
     pub place: usize,
+    pub column: usize,
     pub switches: u32,
     pub faults: u32,
     pub gates: u32,
@@ -44,12 +45,13 @@ pub struct Counts {
     pub wishes: u32,
 }
 
-pub fn refused(number: u32, place: usize) -> Tables
-    ensures { λ r. ⌜ r ≡ refusal number place ⌝ }
+pub fn refused(number: u32, place: usize, column: usize) -> Tables
+    ensures { λ r. ⌜ r ≡ refusal number place column ⌝ }
 {
     Tables {
         number,
         place,
+        column,
         switches: 0,
         faults: 0,
         gates: 0,

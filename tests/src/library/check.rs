@@ -26,6 +26,7 @@ fn found(f: figures::Found) -> Found {
     Found {
         number: f.number,
         place: f.place,
+        column: f.column,
         plan: f.plan,
         cost: f.cost,
         length: f.length,
@@ -36,6 +37,7 @@ fn rated(f: figures::Rated) -> Rated {
     Rated {
         number: f.number,
         place: f.place,
+        column: f.column,
         cost: f.cost,
         sound: f.sound,
         pattern: f.pattern,
@@ -95,7 +97,7 @@ impl<'a> Check<'a> {
         let mut after = words.clone();
         after[GUARD..GUARD + expected.length].copy_from_slice(&list[..expected.length]);
         let got = found(figures::answer(self.bytes, &mut words[GUARD..GUARD + room]));
-        self.calls.answered(got.number);
+        self.calls.answered(&got);
         self.hold(&format!("answer, room {room}"), got, expected);
         if words != after {
             let at = first_difference(&words, &after);
@@ -113,7 +115,7 @@ impl<'a> Check<'a> {
     pub fn short_run(&mut self, patterns: &[u32], expected: Found) -> Found {
         let lent = patterns.to_vec();
         let got = found(figures::short_run(self.bytes, &lent));
-        self.calls.ran_short(got.number);
+        self.calls.ran_short(&got);
         let what = format!("short run over {}", shown(patterns));
         self.hold(&what, got, expected);
         let written = std::hint::black_box(&lent[..]) != patterns;
@@ -123,7 +125,7 @@ impl<'a> Check<'a> {
 
     pub fn rating(&mut self, plan: u32, expected: Rated) -> Rated {
         let got = rated(figures::rating(self.bytes, plan));
-        self.calls.rated(got.number, got.sound);
+        self.calls.rated(&got);
         self.hold(&format!("rating of plan {plan}"), got, expected);
         got
     }
@@ -260,17 +262,18 @@ impl<'a> Check<'a> {
     /// where the room ran out.
     fn pair(&mut self, answered: Found, listed: &[u32], next: Option<u32>) {
         let short = found(figures::short_run(self.bytes, listed));
-        self.calls.ran_short(short.number);
+        self.calls.ran_short(&short);
         if answered.number != brute::NO_ROOM {
-            let outcome = |f: Found| (f.number, f.plan, f.cost);
-            let same = outcome(short) == outcome(answered);
+            // A short run has no length of its own, and all else is the same.
+            let length = 0;
+            let same = short == Found { length, ..answered };
             self.claim(same, || {
                 format!("the pair agrees: answer {answered:?}, short run {short:?}")
             });
             return;
         }
         let rating = rated(figures::rating(self.bytes, short.plan));
-        self.calls.rated(rating.number, rating.sound);
+        self.calls.rated(&rating);
         self.claim(short.number == 0 && fails_at(rating, next), || {
             format!("after 9 the short run's plan fails at {next:?} next: {short:?}, {rating:?}")
         });

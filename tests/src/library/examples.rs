@@ -2,6 +2,7 @@
 
 use planner_tests::brute::{listing, Found, Planner, Rated};
 use planner_tests::generate::sheet;
+use planner_tests::malformed::placed;
 use planner_tests::oracle::{read, Refusal};
 use planner_tests::SAMPLE_LISTING;
 
@@ -13,11 +14,11 @@ enum Job {
     Answer(usize, Found, Vec<u32>),
     ShortRun(Vec<u32>, Found),
     Rating(u32, Rated),
-    Listing(&'static str),
+    Listing(String),
 }
 
 struct Example {
-    name: &'static str,
+    name: String,
     bytes: Vec<u8>,
     job: Job,
 }
@@ -27,7 +28,12 @@ const E4: &str = "H 0 1; R 1; Z 2";
 const E7: &str = "H 1 1; N 1; N 2; A 1 2; A 3 4; O 5 6; R 7; Z 7";
 
 fn refused(number: u32, place: usize) -> Found {
-    Refusal { number, place }.into()
+    let column = 0;
+    Found::from(Refusal {
+        number,
+        place,
+        column,
+    })
 }
 
 fn plan(plan: u32, cost: u32) -> Found {
@@ -39,7 +45,11 @@ fn plan(plan: u32, cost: u32) -> Found {
 }
 
 fn examples() -> Vec<Example> {
-    let example = |name, bytes, job| Example { name, bytes, job };
+    let example = |name: &str, bytes, job| Example {
+        name: name.into(),
+        bytes,
+        job,
+    };
     let answer = |name, short: &str, room, figures: Found, list: &[u32]| {
         let length = list.len();
         let figures = Found { length, ..figures };
@@ -80,7 +90,11 @@ fn examples() -> Vec<Example> {
         answer("E2, the smallest sheet", "H; Z 1", 3, plan(0, 0), &[]),
         answer("E3, the sample", E3, 3, plan(1, 1), &[0]),
         answer("E3, room for any list", E3, 65_536, plan(1, 1), &[0]),
-        example("E3, listing", sheet(E3), Job::Listing(SAMPLE_LISTING)),
+        example(
+            "E3, listing",
+            sheet(E3),
+            Job::Listing(SAMPLE_LISTING.into()),
+        ),
         answer("E4, no plan", E4, 3, refused(8, 0), &[0]),
         answer("E5, no plan and no room", E4, 0, refused(9, 0), &[]),
         answer(
@@ -174,9 +188,33 @@ fn examples() -> Vec<Example> {
         example(
             "no sheet, listing",
             b"\n".to_vec(),
-            Job::Listing("A    1    0    0\nZ    1    0    0\n"),
+            Job::Listing("A    1    0    0\nZ    1    0    0\n".into()),
         ),
     ]
+}
+
+/// Every job on a sheet with each malformed line. The patterns and the plan are too large besides:
+/// that would be told after it.
+fn malformed() -> Vec<Example> {
+    let mut made = Vec::new();
+    for (malformed, place) in placed() {
+        let refusal = malformed.refusal(place);
+        let column = malformed.column;
+        let printed = format!("A    2{place:>5}{column:>5}\nZ    1    0    0\n");
+        for (job_name, job) in [
+            ("answer", Job::Answer(3, refusal.into(), vec![])),
+            ("short run", Job::ShortRun(vec![0, 99], refusal.into())),
+            ("rating", Job::Rating(99, refusal.into())),
+            ("listing", Job::Listing(printed)),
+        ] {
+            made.push(Example {
+                name: format!("{} at line {place}, {job_name}", malformed.why),
+                bytes: malformed.sheet(place),
+                job,
+            });
+        }
+    }
+    made
 }
 
 /// As many lines of each kind as there may be.
@@ -238,14 +276,14 @@ fn by_hand(job: &Job) -> String {
         Job::Answer(_, found, list) => format!("{found:?} {list:?}"),
         Job::ShortRun(_, found) => format!("{found:?}"),
         Job::Rating(_, rated) => format!("{rated:?}"),
-        Job::Listing(printed) => printed.to_string(),
+        Job::Listing(printed) => printed.clone(),
     }
 }
 
 /// Tries all examples and prints one line for each. Returns how many passed and how many failed.
 pub fn try_all() -> (u64, u64) {
     let (mut passed, mut failed) = (0, 0);
-    for example in examples() {
+    for example in examples().into_iter().chain(malformed()) {
         let mut check = Check::new(&example.bytes, 0, 0);
         let (brute, hand) = (brute_force(&example), by_hand(&example.job));
         if brute != hand {

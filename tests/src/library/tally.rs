@@ -1,6 +1,7 @@
 //! What came of the sheets and calls, and whether each outcome came often enough to be tested.
 
-use planner_tests::brute::{End, Planner, Run};
+use planner_tests::brute::{End, Found, Planner, Rated, Run};
+use planner_tests::oracle::{LINE, MALFORMED};
 
 /// The numbers that a job can return: 0 and the refusals.
 const NUMBERS: usize = 12;
@@ -30,12 +31,41 @@ impl Room {
 /// List lengths that are counted, each with those above it.
 const LENGTHS: [usize; 6] = [1, 2, 5, 12, 30, 100];
 
+/// The calls of one job: how often each number came, and each column with number 2.
+#[derive(Clone, Default)]
+struct Outcomes {
+    numbers: [u64; NUMBERS],
+    columns: [u64; LINE],
+}
+
+impl Outcomes {
+    /// Counts one call. A number or column that no job can return is counted nowhere: the
+    /// comparison reports it.
+    fn count(&mut self, number: u32, column: usize) {
+        if let Some(n) = self.numbers.get_mut(number as usize) {
+            *n += 1;
+        }
+        if number == MALFORMED && (1..=LINE).contains(&column) {
+            self.columns[column - 1] += 1;
+        }
+    }
+
+    fn add(&mut self, other: &Outcomes) {
+        add(&mut self.numbers, &other.numbers);
+        add(&mut self.columns, &other.columns);
+    }
+
+    fn all(&self) -> u64 {
+        self.numbers.iter().sum()
+    }
+}
+
 /// The calls for one sheet or for many, by their outcome.
 #[derive(Clone, Default)]
 pub struct Calls {
-    answers: [u64; NUMBERS],
-    short_runs: [u64; NUMBERS],
-    ratings: [u64; NUMBERS],
+    answers: Outcomes,
+    short_runs: Outcomes,
+    ratings: Outcomes,
     sound: u64,
     pub listings: u64,
     pub rooms: [u64; Room::NAMES.len()],
@@ -47,13 +77,6 @@ pub struct Calls {
     all_patterns: u64,
 }
 
-/// Counts a number. One that no job can return is counted nowhere: the comparison reports it.
-fn count(numbers: &mut [u64; NUMBERS], number: u32) {
-    if let Some(n) = numbers.get_mut(number as usize) {
-        *n += 1;
-    }
-}
-
 fn add<const N: usize>(to: &mut [u64; N], from: &[u64; N]) {
     for (a, b) in to.iter_mut().zip(from) {
         *a += b;
@@ -61,17 +84,17 @@ fn add<const N: usize>(to: &mut [u64; N], from: &[u64; N]) {
 }
 
 impl Calls {
-    pub fn answered(&mut self, number: u32) {
-        count(&mut self.answers, number);
+    pub fn answered(&mut self, found: &Found) {
+        self.answers.count(found.number, found.column);
     }
 
-    pub fn ran_short(&mut self, number: u32) {
-        count(&mut self.short_runs, number);
+    pub fn ran_short(&mut self, found: &Found) {
+        self.short_runs.count(found.number, found.column);
     }
 
-    pub fn rated(&mut self, number: u32, sound: u32) {
-        count(&mut self.ratings, number);
-        self.sound += u64::from(number == 0 && sound == 1);
+    pub fn rated(&mut self, rated: &Rated) {
+        self.ratings.count(rated.number, rated.column);
+        self.sound += u64::from(rated.number == 0 && rated.sound == 1);
     }
 
     /// The list of one sheet.
@@ -90,9 +113,9 @@ impl Calls {
     }
 
     pub fn add(&mut self, other: &Calls) {
-        add(&mut self.answers, &other.answers);
-        add(&mut self.short_runs, &other.short_runs);
-        add(&mut self.ratings, &other.ratings);
+        self.answers.add(&other.answers);
+        self.short_runs.add(&other.short_runs);
+        self.ratings.add(&other.ratings);
         add(&mut self.rooms, &other.rooms);
         add(&mut self.plans, &other.plans);
         add(&mut self.no_plans, &other.no_plans);
@@ -103,8 +126,7 @@ impl Calls {
     }
 
     pub fn all(&self) -> u64 {
-        let sum = |numbers: &[u64]| numbers.iter().sum::<u64>();
-        sum(&self.answers) + sum(&self.short_runs) + sum(&self.ratings) + self.listings
+        self.answers.all() + self.short_runs.all() + self.ratings.all() + self.listings
     }
 
     pub fn show(&self) {
@@ -112,7 +134,19 @@ impl Calls {
         for number in 0..NUMBERS {
             println!(
                 "{number:>6}  {:>8}  {:>10}  {:>8}",
-                self.answers[number], self.short_runs[number], self.ratings[number]
+                self.answers.numbers[number],
+                self.short_runs.numbers[number],
+                self.ratings.numbers[number]
+            );
+        }
+        println!("column   answers  short runs   ratings, all with number {MALFORMED}");
+        for before in 0..LINE {
+            println!(
+                "{:>6}  {:>8}  {:>10}  {:>8}",
+                before + 1,
+                self.answers.columns[before],
+                self.short_runs.columns[before],
+                self.ratings.columns[before]
             );
         }
         println!(
@@ -152,18 +186,28 @@ impl Calls {
                 5 => (50, 50, 50),
                 _ => (200, 200, 200),
             };
-            at_least(answer, self.answers[number], format!("answer {number}"));
-            at_least(
-                short_run,
-                self.short_runs[number],
-                format!("short run {number}"),
-            );
-            at_least(rating, self.ratings[number], format!("rating {number}"));
+            for (job, fewest, outcomes) in [
+                ("answer", answer, &self.answers),
+                ("short run", short_run, &self.short_runs),
+                ("rating", rating, &self.ratings),
+            ] {
+                at_least(fewest, outcomes.numbers[number], format!("{job} {number}"));
+            }
+        }
+        for (job, outcomes) in [
+            ("answer", &self.answers),
+            ("short run", &self.short_runs),
+            ("rating", &self.ratings),
+        ] {
+            for (before, &came) in outcomes.columns.iter().enumerate() {
+                let column = before + 1;
+                at_least(20, came, format!("{job} {MALFORMED}, column {column}"));
+            }
         }
         at_least(1_000, self.sound, "a sound plan".into());
         at_least(
             1_000,
-            self.ratings[0] - self.sound,
+            self.ratings.numbers[0] - self.sound,
             "a plan not sound".into(),
         );
         at_least(1_000, self.listings, "a listing".into());

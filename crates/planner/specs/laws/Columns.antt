@@ -8,7 +8,7 @@ use lib.ListN.{length, take, replicate, length-append, length-map}
 use lib.Seq.{take-at}
 use borrow.Author.Tests.{eq-eqb, ne-eqb}
 use Rattle.scope.specs.Sheet.{Number, number, Clause, Gate, Sheet, sheet, mostGates, mostRules, mostWishes, All, Among, Wish, Valid}
-use Rattle.scope.specs.Reading.{Read, accepted, refused, started, read}
+use Rattle.scope.specs.Reading.{Read, accepted, refused, started}
 use Rattle.circuit.specs.Lent.{Columns, rows, gateOf, gatesOf, literalsOf, clauseOf, wishesOf, Gates, Clauses, circuit}
 use Rattle.sheet.specs.declared.tables.Tables.{Tables}
 use Rattle.sheet.specs.Tables.{padded, kindOf, leftOf, rightOf, pointOf, literalCode, literalAt, tables, outcome}
@@ -159,9 +159,9 @@ within-padded : {A : Type 0} (n : ℕ) (f : A → ℕ) (l : List A) → length l
 unfolding padded
 within-padded n f l = omega (arith, length-append (map f l) (replicate (n - length l) 0), length-map l f)
 
-tables-fronts : (number place : ℕ) (t : Sheet) → Fronts (tables number place t)
+tables-fronts : (number place column : ℕ) (t : Sheet) → Fronts (tables number place column t)
 unfolding tables
-tables-fronts number place t = record {
+tables-fronts number place column t = record {
   kind = within-padded mostGates kindOf (t .gates);
   left = within-padded mostGates leftOf (t .gates);
   right = within-padded mostGates rightOf (t .gates);
@@ -175,5 +175,5 @@ pub fronts : (u : Tables) (o : Read) → u ≡ outcome o → Fronts u
 fronts u o e = rw e (go o)
   where
     go : (o : Read) → Fronts (outcome o)
-    go (accepted t) = tables-fronts 0 0 t
-    go (refused n place) = tables-fronts n place (started 0 0)
+    go (accepted t) = tables-fronts 0 0 0 t
+    go (refused n place column) = tables-fronts n place column (started 0 0)

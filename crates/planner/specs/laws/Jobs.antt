@@ -11,9 +11,9 @@ use lib.ListN.{length, getD, take, drop, drop-of-length-le}
 use lib.Seq.{drop-cons, length-take-le}
 use borrow.Author.Tests.{lt-ltb, le-ltb}
 use Rattle.scope.specs.Sheet.{Sheet, sheet, fieldCount, All, Among, Valid}
-use Rattle.scope.specs.Reading.{accepted, refused, read}
+use Rattle.scope.specs.Reading.{accepted, read}
 use Rattle.scope.specs.Meaning.{plans, patterns, switchOn, passes, truth, cost}
-use Rattle.scope.specs.Rule.{noRoom, verdictOf, Run, run, rule, missed, short, best}
+use Rattle.scope.specs.Rule.{noRoom, verdictOf, Run, rule, missed, short, best}
 use Rattle.scope.specs.Jobs.{task, Result, refusal, found, result, answered, answerOf, answer, firstHigh, shortOf, shortRun, rated, unrated, rating}
 use Rattle.scope.specs.Jobs as jobs
 use Rattle.scope.specs.laws.Inverse.{read-iff}
@@ -99,15 +99,15 @@ module _ (s : List ℕ) (u : Tables) (h : Sheeted s u) (g n w : ℕ) (gates : g 
 -- ---- refused sheets
 
 module _ (s : List ℕ) (u : Tables) (e : u ≡ outcome (read fieldCount s)) (z : u .number ≢ 0) where
-  pub answer-refused : (lent : List ℕ) → answer s lent ≡ record { result = refusal (u .number) (u .place) 0; list = lent }
+  pub answer-refused : (lent : List ℕ) → answer s lent ≡ record { result = refusal (u .number) (u .place) (u .column) 0; list = lent }
   unfolding answer
   answer-refused lent = ap (λ o. answerOf o lent) (refused-of fieldCount s u e z)
 
-  pub short-refused : (l : List ℕ) → shortRun s l ≡ refusal (u .number) (u .place) 0
+  pub short-refused : (l : List ℕ) → shortRun s l ≡ refusal (u .number) (u .place) (u .column) 0
   unfolding shortRun
   short-refused l = ap (λ o. shortOf o l) (refused-of fieldCount s u e z)
 
-  pub rating-refused : (p : ℕ) → rating s p ≡ unrated (u .number) (u .place)
+  pub rating-refused : (p : ℕ) → rating s p ≡ unrated (u .number) (u .place) (u .column)
   unfolding rating
   rating-refused p = ap (λ o. jobs.ratingOf o p) (refused-of fieldCount s u e z)
 
@@ -115,7 +115,7 @@ module _ (s : List ℕ) (u : Tables) (e : u ≡ outcome (read fieldCount s)) (z 
 
 -- the best plan with its cost, or that there is none
 abbrev pub bestFigures : Best → ℕ → Result
-bestFigures Nothing l = refusal 8 0 l
+bestFigures Nothing l = refusal 8 0 0 l
 bestFigures (At p c) l = found (p .0) c l
 
 pub best-figures : (t : Sheet) (b : Best) (l : ℕ) → Priced (task t) b → bestFigures b l ≡ result t (verdictOf (bestOf b)) l
@@ -125,7 +125,7 @@ best-figures t (At p c) l h = ap (λ m. found (p .0) m l) h
 -- ---- Rating
 
 module _ (s : List ℕ) (t : Sheet) (e : read fieldCount s ≡ accepted t) where
-  pub rating-high : (p : ℕ) → plans t ≤ p → rating s p ≡ unrated 10 0
+  pub rating-high : (p : ℕ) → plans t ≤ p → rating s p ≡ unrated 10 0 0
   unfolding rating
   rating-high p h = rw (e, le-ltb p (plans t) h)
 
@@ -134,7 +134,7 @@ module _ (s : List ℕ) (t : Sheet) (e : read fieldCount s ≡ accepted t) where
   rating-low p h = rw (e, lt-ltb p (plans t) h)
 
   -- ---- Short run
-  pub short-high : (l : List ℕ) (i : ℕ) → firstHigh (patterns t) 1 l ≡ some i → shortRun s l ≡ refusal 11 i 0
+  pub short-high : (l : List ℕ) (i : ℕ) → firstHigh (patterns t) 1 l ≡ some i → shortRun s l ≡ refusal 11 i 0 0
   unfolding shortRun
   short-high l i h = rw (e, h)
 
@@ -174,12 +174,12 @@ high-some (suc i) h = refl
 -- ---- Answer
 
 abbrev pub runFigures : made.Run → Result
-runFigures r = cond (r .full) (refusal 9 0 (r .length)) (bestFigures (r .best) (r .length))
+runFigures r = cond (r .full) (refusal 9 0 0 (r .length)) (bestFigures (r .best) (r .length))
 
 run-figures : (t : Sheet) (r : made.Run) → Priced (task t) (r .best) → runFigures r ≡ result t (verdictFrom r) (r .length)
 run-figures t r h = go (r .full)
   where
-    go : (b : Bool) → cond b (refusal 9 0 (r .length)) (bestFigures (r .best) (r .length)) ≡ result t (cond b noRoom (verdictOf (bestOf (r .best)))) (r .length)
+    go : (b : Bool) → cond b (refusal 9 0 0 (r .length)) (bestFigures (r .best) (r .length)) ≡ result t (cond b noRoom (verdictOf (bestOf (r .best)))) (r .length)
     go true = refl
     go false = best-figures t (r .best) (r .length) h
 

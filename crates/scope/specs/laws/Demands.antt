@@ -33,9 +33,9 @@ same-verdict t noRoom noPlan l m s = absurd (omega (arith, s .number))
 same-verdict t noRoom noRoom l m s = refl
 
 same-result : (t : Sheet) (v : Verdict) (l m : ℕ) → Same (result t v l) (result t v m)
-same-result t (plan p) l m = record { number = refl; plan = refl; cost = refl }
-same-result t noPlan l m = record { number = refl; plan = refl; cost = refl }
-same-result t noRoom l m = record { number = refl; plan = refl; cost = refl }
+same-result t (plan p) l m = record { number = refl; place = refl; column = refl; plan = refl; cost = refl }
+same-result t noPlan l m = record { number = refl; place = refl; column = refl; plan = refl; cost = refl }
+same-result t noRoom l m = record { number = refl; place = refl; column = refl; plan = refl; cost = refl }
 
 result-length : (t : Sheet) (v : Verdict) (l : ℕ) → result t v l .length ≡ l
 result-length t (plan p) l = refl
@@ -48,7 +48,7 @@ number-nine t noPlan l e = absurd (omega arith)
 number-nine t noRoom l e = refl
 
 same-of : {r q : Result} → r ≡ q → Same r q
-same-of e = record { number = ap (λ r. r .number) e; plan = ap (λ r. r .plan) e; cost = ap (λ r. r .cost) e }
+same-of e = record { number = ap (λ r. r .number) e; place = ap (λ r. r .place) e; column = ap (λ r. r .column) e; plan = ap (λ r. r .plan) e; cost = ap (λ r. r .cost) e }
 
 -- ---- the short run over patterns of the sheet
 
@@ -175,19 +175,19 @@ module _ (lent : List ℕ) where
     rw (result-length t (rule (task t) (length lent) [] .verdict) (length (rule (task t) (length lent) [] .words)), ← listed-words t lent) (listed-most t lent),
     λ i h. omega (arith, words-below (task t) (listed (answerOf (accepted t) lent)) (listed-ruled t lent) i h, most t refl),
   )
-  listed-of (refused c place) most = (omega arith, λ i h. absurd (omega arith))
+  listed-of (refused c place column) most = (omega arith, λ i h. absurd (omega arith))
 
 -- ---- demand 3, over every sheet and every lent list
 
 agrees-of : (r : Read) (lent : List ℕ) → answerOf r lent .result .number ≢ 9 → Same (answerOf r lent .result) (shortOf r (listed (answerOf r lent)))
 agrees-of (accepted t) lent n = agrees t lent n
-agrees-of (refused c place) lent n = record { number = refl; plan = refl; cost = refl }
+agrees-of (refused c place column) lent n = record { number = refl; place = refl; column = refl; plan = refl; cost = refl }
 
 pub demand3 : (s lent : List ℕ) → Demand3 s lent
 unfolding answer shortRun
 demand3 s lent = record {
   agrees = agrees-of (read fieldCount s) lent;
-  turned-down = λ c place e. rw e (refl, refl);
+  turned-down = λ c place column e. rw e (refl, refl);
   lists = λ t e. subst (λ r. Pair t lent (answerOf r lent .result) (listed (answerOf r lent)) (shortOf r)) (sym e) (pair t lent);
 }
 
@@ -216,7 +216,7 @@ enough t lent h = record {
     is : (u : Verdict) → result t v L ≡ result t u L → v ≡ u
     is u e = same-verdict t v u L L (same-of e)
 
-crowded : (t : Sheet) (lent : List ℕ) → length lent < length (list t) → Demand2 t lent (answered (refusal 9 0 (length (take (length lent) (list t)))) (over (take (length lent) (list t)) lent))
+crowded : (t : Sheet) (lent : List ℕ) → length lent < length (list t) → Demand2 t lent (answered (refusal 9 0 0 (length (take (length lent) (list t)))) (over (take (length lent) (list t)) lent))
 crowded t lent h = record {
   plan = λ p. (λ e. absurd (omega (arith, same-of e .number)), λ (g, b). absurd (omega arith));
   no-plan = (λ e. absurd (omega (arith, same-of e .number)), λ (g, b). absurd (omega arith));
@@ -271,6 +271,7 @@ rates : (t : Sheet) (p : ℕ) → p < plans t → (o : Option ℕ) → missed (t
 rates t p h none e = record {
   number = refl;
   place = refl;
+  column = refl;
   cost = refl;
   sound = (λ f. record { plan = h; passes = λ q g. not-false (passes t p q) (missed-iff (task t) p none .0 e q g) }, λ s. refl);
   pattern = λ f. clash refl f;
@@ -282,6 +283,7 @@ rates t p h (some q) e =
     record {
       number = refl;
       place = refl;
+      column = refl;
       cost = refl;
       sound = (λ f. clash f refl, λ s. clash (s .passes q (m .below)) (not-true (passes t p q) (m .good)));
       pattern = λ f. (m .below, not-true (passes t p q) (m .good));

@@ -13,10 +13,10 @@ use lib.Seq.{take-at, drop-at, take-add, take-all}
 use borrow.Author.Tests.{eqb-true, eq-eqb, ne-eqb, ltb-true, le-leb, lt-ltb}
 use Rattle.scope.specs.Sheet.{Number, plus, Clause, Gate, Sheet, sheet, points, fits, Letter, H, N, A, O, R, W, Z, Line, line, lineBytes, text, filled, headLine, gateLine, ruleLine, wishLine, endLine, body, sheetLines, sheetBytes, mostSwitches, mostFaults, mostGates, mostRules, mostWishes, mostLiterals, All, Among, Names, Ordered, Wish, Valid}
 use Rattle.scope.specs.Reading.{is, point, zeros, literals, clause, at, rows, tests, started, addWish, make, add, accepted, lineSize, mostBytes, lengthOk, lineCount, lineOf, lineAt, testsAt, readFrom, read}
-use Rattle.scope.specs.Causes.{Met, before, Passed}
+use Rattle.scope.specs.Causes.{Printed, Met, before, Passed}
 use Rattle.scope.specs.laws.Tests.{clash, both}
 use Rattle.scope.specs.laws.Fields.{length-snoc}
-use Rattle.scope.specs.laws.Lines.{Fit, Printed, line-iff, length-line}
+use Rattle.scope.specs.laws.Lines.{Fit, line-iff, length-line}
 use Rattle.scope.specs.laws.Refusals.{met-none, accepted-iff}
 use Rattle.scope.specs.laws.Steps.{Step, more, done, step, Head, head-step}
 

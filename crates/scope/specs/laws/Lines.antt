@@ -14,6 +14,7 @@ use lib.Seq.{take-at, drop-at}
 use borrow.Author.Tests.{eqb-true}
 use Rattle.scope.specs.Sheet.{Number, fieldSize, field, fits, Letter, H, N, A, O, R, W, Z, letterByte, Line, line, fieldsBytes, lineBytes, All}
 use Rattle.scope.specs.Reading.{same, fieldOf, also, fieldsOf, letterFrom, letterOf, joined, lineOf, lineSize}
+use Rattle.scope.specs.Causes.{Printed}
 use Rattle.scope.specs.laws.Fields.{same-true, length-field, when-some, field-iff}
 
 -- ---- fields
@@ -85,12 +86,6 @@ unfolding letterOf
 letter-iff b c = (letter-from (H ∷ N ∷ A ∷ O ∷ R ∷ W ∷ Z ∷ []) b c, λ e. ap letterOf e ∙ letter-byte c)
 
 -- ---- the line
-
--- s is the line l printed, and l has n fields
-pub record Printed (n : ℕ) (s : List ℕ) (l : Line) : Type 0 where
-  pub bytes : s ≡ lineBytes l
-  pub count : length (l .fields) ≡ n
-  pub fit : Fit (l .fields)
 
 joined-some : (o : Option Letter) (p : Option (List Number)) (l : Line) → joined o p ≡ some l → (o ≡ some (l .letter)) × (p ≡ some (l .fields))
 joined-some none p l e = absurd (Option·none-ne-some l e)

@@ -11,15 +11,15 @@ use lib.ListN.{length, getD, replicate, length-append}
 use borrow.Author.Tests.{leb-true}
 use Rattle.scope.specs.Sheet.{Sheet, fieldCount, mostSwitches, mostWishes, All, Valid}
 use Rattle.scope.specs.Reading.{Read, accepted, refused, lineSize, mostBytes, lengthOk, lineCount, read}
-use Rattle.scope.specs.Causes.{Cause, size, line, SheetRefusal, wrongLength, malformed, wrongLetter, outOfRange, tooMany, wrongField, wrongCount}
-use Rattle.scope.specs.Meaning.{bits, patterns, kept, cost}
+use Rattle.scope.specs.Causes.{Cause, size, line}
+use Rattle.scope.specs.Meaning.{bits, patterns, kept}
 use Rattle.scope.specs.Rule.{Verdict, plan, noPlan, noRoom, rule}
 use Rattle.scope.specs.Jobs.{task, Result, result, Answer, answerOf, answer}
 use Rattle.scope.specs.Demands.{listed}
-use Rattle.scope.specs.Program.{Row, row, one, each, switchRow, wishRow, patternRow, planRows, foundRows, answerRows, ended, room, outputRows}
+use Rattle.scope.specs.Program.{Row, row, one, each, third, switchRow, wishRow, patternRow, planRows, foundRows, answerRows, ended, room, outputRows}
 use Rattle.scope.specs.laws.Tests.{both}
 use Rattle.scope.specs.laws.Lines.{Fit}
-use Rattle.scope.specs.laws.Refusals.{refused-iff, cause-number}
+use Rattle.scope.specs.laws.Refusals.{refused-iff, cause-number, figures-within}
 use Rattle.scope.specs.laws.Inverse.{read-iff, plus-fits, all-append}
 use Rattle.scope.specs.laws.Points.{length-bits}
 use Rattle.scope.specs.laws.Wishes.{cost-small}
@@ -79,12 +79,12 @@ module _ (t : Sheet) (v : Valid t) where
   record Small (r : Result) : Type 0 where
     number : r .number ≤ top
     place : r .place ≤ top
-    cost : r .cost ≤ top
+    third : third r ≤ top
 
   result-small : (u : Verdict) (l : ℕ) → Small (result t u l)
-  result-small (plan p) l = record { number = omega arith; place = omega arith; cost = omega (arith, cost-small t v p) }
-  result-small noPlan l = record { number = omega arith; place = omega arith; cost = omega arith }
-  result-small noRoom l = record { number = omega arith; place = omega arith; cost = omega arith }
+  result-small (plan p) l = record { number = omega arith; place = omega arith; third = omega (arith, cost-small t v p) }
+  result-small noPlan l = record { number = omega arith; place = omega arith; third = omega arith }
+  result-small noRoom l = record { number = omega arith; place = omega arith; third = omega arith }
 
   found-fits : (r : Result) → All Fits (foundRows (accepted t) r)
   found-fits r = go (eqb (r .number) 0)
@@ -108,14 +108,14 @@ module _ (t : Sheet) (v : Valid t) where
       let found : List Row = foundRows (accepted t) r in
       let words : List Row = each patternRow 1 (listed a) in
       let few : length (listed a) ≤ patterns t = length-patterns (task t) (listed a) (listed-ruled t lent) in
-      let count : length (row "A" (r .number) (r .place) (r .cost) ∷ found ++ words) ≤ top = omega (arith, length-append found words, length-found r, length-each patternRow 1 (listed a), most-patterns) in
-      all-append Fits (row "A" (r .number) (r .place) (r .cost) ∷ found ++ words) (row "Z" (length (row "A" (r .number) (r .place) (r .cost) ∷ found ++ words)) 0 0 ∷ []) (
-        row-fits "A" (r .number) (r .place) (r .cost) (m .number) (m .place) (m .cost),
+      let count : length (row "A" (r .number) (r .place) (third r) ∷ found ++ words) ≤ top = omega (arith, length-append found words, length-found r, length-each patternRow 1 (listed a), most-patterns) in
+      all-append Fits (row "A" (r .number) (r .place) (third r) ∷ found ++ words) (row "Z" (length (row "A" (r .number) (r .place) (third r) ∷ found ++ words)) 0 0 ∷ []) (
+        row-fits "A" (r .number) (r .place) (third r) (m .number) (m .place) (m .third),
         all-append Fits found words (found-fits r)
             (each-fits (λ q. q ≤ top) patternRow (λ i q h g. row-fits "F" i q 0 h g (omega arith)) 1 (listed a) (omega (arith, most-patterns))
             (all-getD (λ q. q ≤ top) (listed a) (λ i h. omega (arith, words-below (task t) (listed a) (listed-ruled t lent) i h, most-patterns)))),
       )
-      (row-fits "Z" (length (row "A" (r .number) (r .place) (r .cost) ∷ found ++ words)) 0 0 count (omega arith) (omega arith), tt)
+      (row-fits "Z" (length (row "A" (r .number) (r .place) (third r) ∷ found ++ words)) 0 0 count (omega arith) (omega arith), tt)
 
 -- ---- a refused one
 
@@ -125,18 +125,13 @@ few-lines s e =
     let (b, d) = both (leb (length s) (mostBytes fieldCount)) (eqb (length s % lineSize fieldCount) 0) r in
     omega (arith, leb-true (length s) (mostBytes fieldCount) b)
 
-cause-small : (s : List ℕ) {c place : ℕ} → Cause fieldCount s c place → place ≤ 530
+cause-small : (s : List ℕ) {c place column : ℕ} → Cause fieldCount s c place column → place ≤ 530
 cause-small s (size h) = omega arith
-cause-small s (line k h l p f) = omega (arith, few-lines s h)
+cause-small s (line k h l p f w) = omega (arith, few-lines s h)
 
-number-small : {c place : ℕ} → SheetRefusal c place → c ≤ 7
-number-small wrongLength = omega arith
-number-small malformed = omega arith
-number-small wrongLetter = omega arith
-number-small outOfRange = omega arith
-number-small tooMany = omega arith
-number-small wrongField = omega arith
-number-small wrongCount = omega arith
+choice : (b : Bool) {x : ℕ} → x ≤ top → cond b x 0 ≤ top
+choice true h = h
+choice false h = omega arith
 
 pub output-fits : (s : List ℕ) → All Fits (outputRows s)
 unfolding outputRows answer each
@@ -144,9 +139,10 @@ output-fits s = go (read fieldCount s) refl
   where
     go : (o : Read) → read fieldCount s ≡ o → All Fits (ended (answerRows o (answerOf o (replicate room 0))))
     go (accepted t) e = answer-fits t (read-iff fieldCount (omega arith) s t .0 e .1) (replicate room 0)
-    go (refused c place) e =
-        let h : Cause fieldCount s c place = refused-iff fieldCount s c place .0 e in
-        (row-fits "A" c place 0 (omega (arith, number-small (cause-number fieldCount s h))) (omega (arith, cause-small s h)) (omega arith), (row-fits "Z" 1 0 0 (omega arith) (omega arith) (omega arith), tt))
+    go (refused c place column) e =
+        let h : Cause fieldCount s c place column = refused-iff fieldCount s c place column .0 e in
+        let (low, high, within) = figures-within (cause-number fieldCount s h) in
+        (row-fits "A" c place (cond (eqb c 2) column 0) (omega arith) (omega (arith, cause-small s h)) (choice (eqb c 2) (omega arith)), (row-fits "Z" 1 0 0 (omega arith) (omega arith) (omega arith), tt))
 
 -- ---- what Answer lists, whatever it is lent: no more than that, and patterns that fit a field
 

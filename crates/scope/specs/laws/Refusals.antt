@@ -1,6 +1,6 @@
 -- A sheet is refused exactly for its first cause, and accepted exactly if it has none. Assumes nothing.
-use Prim.Native.Nat.{ℕ, zero, suc, _+_, _-_, _<_}
-use native.Mathlib.Nat.{add-zero, zero-add}
+use Prim.Native.Nat.{ℕ, zero, suc, _+_, _-_, _*_, _≤_, _<_}
+use native.Mathlib.Nat.{add-zero, zero-add, suc-mul, mul-le-mul-right, div-add-mod'}
 use native.Mathlib.Omega.{arith}
 use mathlib.Core.Bool.{Bool, true, false, not, _&&_}
 use mathlib.Core.List.{List, [], _∷_}
@@ -8,12 +8,16 @@ use mathlib.Core.Logic.{_↔_, _≢_, _⊎_, inl, inr}
 use mathlib.Core.Option.{Option, none, some, Option·none-ne-some, Option·some-injective}
 use mathlib.Core.Path.{_≡_, refl, sym, ap, subst, subst₂, _∙_}
 use lib.Dec.{eqb}
-use lib.ListN.{length, drop}
+use lib.ListN.{length, drop, length-drop}
+use lib.Seq.{length-take-le}
 use borrow.Author.Tests.{eqb-true}
 use Rattle.scope.specs.Sheet.{Number, Sheet, Letter, H, N, A, O, R, W, Z, Line, mostSwitches, mostFaults, All}
-use Rattle.scope.specs.Reading.{upTo, at, zeros, Row, firstFault, rows, tests, started, accepted, refused, lengthOk, lineCount, lineAt, testsAt, readFrom, read}
-use Rattle.scope.specs.Causes.{Met, First, here, later, before, Passed, Cause, size, line, NoCause, SheetRefusal, wrongLength, malformed, wrongLetter, outOfRange, tooMany, wrongField, wrongCount}
+use Rattle.scope.specs.Reading.{upTo, at, zeros, Row, firstFault, rows, tests, started, accepted, refused, lineOf, lineSize, lengthOk, lineCount, bytesAt, lineAt, columnAt, testsAt, readFrom, read}
+use Rattle.scope.specs.Causes.{Column, stopped, Met, First, here, later, before, Passed, Cause, size, line, NoCause, SheetRefusal, wrongLength, malformed, wrongLetter, outOfRange, tooMany, wrongField, wrongCount}
+use Rattle.scope.specs.Causes as causes
 use Rattle.scope.specs.laws.Tests.{both, up-to}
+use Rattle.scope.specs.laws.Lines.{line-iff}
+use Rattle.scope.specs.laws.Beginnings.{stops-within, column-is, column-told}
 
 -- ---- the first unmet test
 
@@ -68,50 +72,62 @@ module _ (n : ℕ) (s : List ℕ) where
   unfolding read readFrom
   no-cause-accepts h = rw (h .size) (ap (λ m. readFrom n s m 0 (started 0 0)) (sym (add-zero (lineCount n s))) ∙ reach (lineCount n s) 0 (h .lines))
 
-  pub cause-refuses : {c place : ℕ} → Cause n s c place → read n s ≡ refused c place
-  unfolding read readFrom
+  pub cause-refuses : {c place column : ℕ} → Cause n s c place column → read n s ≡ refused c place column
+  unfolding read readFrom columnAt
   cause-refuses (size h) = rw h
-  cause-refuses (line {c} k h l p f) =
+  cause-refuses (line {c} {column} k h l p f w) =
       let m : ℕ = lineCount n s - suc k in
       let i : lineCount n s ≡ k + suc m = omega arith in
-      rw (h, i) (reach k (suc m) p ∙ rw (first-some f))
+      rw (h, i) (reach k (suc m) p ∙ rw (first-some f, column-is n (bytesAt n s k) column w))
+
+  -- line k is a whole one
+  pub line-within : (k : ℕ) → k < lineCount n s → k * lineSize n + lineSize n ≤ length s
+  line-within k h = let i : suc k ≤ lineCount n s = omega arith in omega (arith, suc-mul k (lineSize n), mul-le-mul-right (lineSize n) i, div-add-mod' (length s) (lineSize n))
+
+  whole-line : (k : ℕ) → k < lineCount n s → length (bytesAt n s k) ≡ lineSize n
+  whole-line k h = length-take-le (lineSize n) (drop (k * lineSize n) s) (omega (arith, line-within k h, length-drop (k * lineSize n) s))
+
+  pub column-of : (k : ℕ) → k < lineCount n s → Column n (bytesAt n s k) (columnAt n s k)
+  unfolding columnAt
+  column-of k h = column-told n (bytesAt n s k) (omega (arith, whole-line k h))
 
   -- one of the two is there
   data Told : Type 0 where
     fine : NoCause n s → Told
-    turned : (c place : ℕ) → Cause n s c place → Told
+    turned : (c place column : ℕ) → Cause n s c place column → Told
 
   told : Told
   told = go (lengthOk n (length s)) refl
     where
       go : (t : Bool) → lengthOk n (length s) ≡ t → Told
-      go false e = turned 1 0 (size e)
+      go false e = turned 1 0 0 (size e)
       go true e = lines (search-lines (lineCount n s))
         where
           lines : Search (lineCount n s) → Told
           lines (all p) = fine record { size = e; lines = p }
-          lines (stop c k h p f) = turned c (suc k) (line k e h p f)
+          lines (stop c k h p f) = turned c (suc k) (columnAt n s k) (line k e h p f (column-of k h))
 
-  not-both : {t : Sheet} {c place : ℕ} → accepted t ≢ refused c place
+  not-both : {t : Sheet} {c place column : ℕ} → accepted t ≢ refused c place column
   not-both e = let z : _≡_ {A = ℕ} 0 1 = cc in omega arith
 
-  pub refused-iff : (c place : ℕ) → (read n s ≡ refused c place) ↔ Cause n s c place
-  refused-iff c place = (λ e. go told e, cause-refuses)
+  pub refused-iff : (c place column : ℕ) → (read n s ≡ refused c place column) ↔ Cause n s c place column
+  refused-iff c place column = (λ e. go told e, cause-refuses)
     where
-      go : Told → read n s ≡ refused c place → Cause n s c place
+      go : Told → read n s ≡ refused c place column → Cause n s c place column
       go (fine h) e = absurd (not-both (sym (no-cause-accepts h) ∙ e))
-      go (turned d p h) e =
-          let f : refused d p ≡ refused c place = sym (cause-refuses h) ∙ e in
+      go (turned d p q h) e =
+          let f : refused d p q ≡ refused c place column = sym (cause-refuses h) ∙ e in
           let a : d ≡ c = cc in
           let b : p ≡ place = cc in
-          subst₂ (Cause n s) a b h
+          let g : q ≡ column = cc in
+          subst (Cause n s c place) g (subst₂ (λ x y. Cause n s x y q) a b h)
 
   pub accepted-iff : (t : Sheet) → (read n s ≡ accepted t) ↔ (NoCause n s × (t ≡ before n s (lineCount n s)))
   accepted-iff t = (λ e. go told e, λ (h, e). no-cause-accepts h ∙ ap accepted (sym e))
     where
       go : Told → read n s ≡ accepted t → NoCause n s × (t ≡ before n s (lineCount n s))
       go (fine h) e = let f : accepted (before n s (lineCount n s)) ≡ accepted t = sym (no-cause-accepts h) ∙ e in (h, cc)
-      go (turned c p h) e = absurd (not-both (sym e ∙ cause-refuses h))
+      go (turned c p q h) e = absurd (not-both (sym e ∙ cause-refuses h))
 
 -- ---- which numbers
 
@@ -133,25 +149,48 @@ first-cons m false rs f = inl (head f)
     head : {c : ℕ} → First c ((m, false) ∷ rs) → c ≡ m
     head here = refl
 
-rows-number : (t : Sheet) (k : ℕ) (last : Bool) (c : Letter) (xs : List Number) {m : ℕ} → First m (rows t k last c xs) → SheetRefusal m (suc k)
+rows-number : (w : ℕ) (t : Sheet) (k : ℕ) (last : Bool) (c : Letter) (xs : List Number) {m : ℕ} → First m (rows t k last c xs) → SheetRefusal w m (suc k) 0
 unfolding rows
-rows-number t k last H xs {m} f = go (first-cons 3 (eqb k 0 && not last) ((4, upTo mostSwitches (at xs 0) && upTo mostFaults (at xs 1)) ∷ (6, zeros (drop 2 xs)) ∷ []) f)
+rows-number w t k last H xs {m} f = go (first-cons 3 (eqb k 0 && not last) ((4, upTo mostSwitches (at xs 0) && upTo mostFaults (at xs 1)) ∷ (6, zeros (drop 2 xs)) ∷ []) f)
   where
-    go : (m ≡ 3) ⊎ (((eqb k 0 && not last) ≡ true) × First m ((4, upTo mostSwitches (at xs 0) && upTo mostFaults (at xs 1)) ∷ (6, zeros (drop 2 xs)) ∷ [])) → SheetRefusal m (suc k)
+    go : (m ≡ 3) ⊎ (((eqb k 0 && not last) ≡ true) × First m ((4, upTo mostSwitches (at xs 0) && upTo mostFaults (at xs 1)) ∷ (6, zeros (drop 2 xs)) ∷ [])) → SheetRefusal w m (suc k) 0
     go (inl e) = rw e wrongLetter
-    go (inr (b, g)) = let z : k ≡ 0 = eqb-true k 0 (both (eqb k 0) (not last) b .0) in rw z (first-in (λ c. SheetRefusal c 1) ((4, upTo mostSwitches (at xs 0) && upTo mostFaults (at xs 1)) ∷ (6, zeros (drop 2 xs)) ∷ []) (outOfRange, (wrongField, tt)) g)
-rows-number t k last N xs f = first-in (λ c. SheetRefusal c (suc k)) (rows t k last N xs) (wrongLetter, (tooMany, (wrongField, tt))) f
-rows-number t k last A xs f = first-in (λ c. SheetRefusal c (suc k)) (rows t k last A xs) (wrongLetter, (tooMany, (wrongField, tt))) f
-rows-number t k last O xs f = first-in (λ c. SheetRefusal c (suc k)) (rows t k last O xs) (wrongLetter, (tooMany, (wrongField, tt))) f
-rows-number t k last R xs f = first-in (λ c. SheetRefusal c (suc k)) (rows t k last R xs) (wrongLetter, (tooMany, (wrongField, tt))) f
-rows-number t k last W xs f = first-in (λ c. SheetRefusal c (suc k)) (rows t k last W xs) (wrongLetter, (tooMany, (wrongField, tt))) f
-rows-number t k last Z xs f = first-in (λ c. SheetRefusal c (suc k)) (rows t k last Z xs) (wrongLetter, (wrongField, (wrongCount, tt))) f
+    go (inr (b, g)) = let z : k ≡ 0 = eqb-true k 0 (both (eqb k 0) (not last) b .0) in rw z (first-in (λ c. SheetRefusal w c 1 0) ((4, upTo mostSwitches (at xs 0) && upTo mostFaults (at xs 1)) ∷ (6, zeros (drop 2 xs)) ∷ []) (outOfRange, (wrongField, tt)) g)
+rows-number w t k last N xs f = first-in (λ c. SheetRefusal w c (suc k) 0) (rows t k last N xs) (wrongLetter, (tooMany, (wrongField, tt))) f
+rows-number w t k last A xs f = first-in (λ c. SheetRefusal w c (suc k) 0) (rows t k last A xs) (wrongLetter, (tooMany, (wrongField, tt))) f
+rows-number w t k last O xs f = first-in (λ c. SheetRefusal w c (suc k) 0) (rows t k last O xs) (wrongLetter, (tooMany, (wrongField, tt))) f
+rows-number w t k last R xs f = first-in (λ c. SheetRefusal w c (suc k) 0) (rows t k last R xs) (wrongLetter, (tooMany, (wrongField, tt))) f
+rows-number w t k last W xs f = first-in (λ c. SheetRefusal w c (suc k) 0) (rows t k last W xs) (wrongLetter, (tooMany, (wrongField, tt))) f
+rows-number w t k last Z xs f = first-in (λ c. SheetRefusal w c (suc k) 0) (rows t k last Z xs) (wrongLetter, (wrongField, (wrongCount, tt))) f
 
-tests-number : (t : Sheet) (k : ℕ) (last : Bool) (o : Option Line) {m : ℕ} → First m (tests t k last o) → SheetRefusal m (suc k)
-tests-number t k last none here = malformed
-tests-number t k last (some l) f = rows-number t k last (l .letter) (l .fields) f
+-- 2 is the number of a line that stops, and all others are of well-formed ones
+tests-number : (n : ℕ) (t : Sheet) (k : ℕ) (last : Bool) (s : List ℕ) → length s ≡ lineSize n → {m column : ℕ} → First m (tests t k last (lineOf n s)) → Column n s column → SheetRefusal n m (suc k) column
+tests-number n t k last s l f w = go (lineOf n s) refl f w
+  where
+    stop : {c : ℕ} → lineOf n s ≡ none → Column n s c → SheetRefusal n 2 (suc k) c
+    stop e (stopped {c} h) = within c (stops-within n s c h)
+      where
+        within : (c : ℕ) → (1 ≤ c) × (c ≤ length s) → SheetRefusal n 2 (suc k) c
+        within zero (a, b) = absurd (omega arith)
+        within (suc c) (a, b) = malformed {c = c} (omega arith)
+    stop e (causes.none x h) = absurd (Option·none-ne-some x (sym e ∙ line-iff n s x .1 h))
 
-pub cause-number : (n : ℕ) (s : List ℕ) {c place : ℕ} → Cause n s c place → SheetRefusal c place
-unfolding testsAt
+    go : {m c : ℕ} (o : Option Line) → lineOf n s ≡ o → First m (tests t k last o) → Column n s c → SheetRefusal n m (suc k) c
+    go none e here w = stop e w
+    go {c} (some x) e f w =
+        let z : c ≡ 0 = sym (column-is n s c w) ∙ column-is n s 0 (causes.none x (line-iff n s x .0 e)) in
+        rw z (rows-number n t k last (x .letter) (x .fields) f)
+
+pub cause-number : (n : ℕ) (s : List ℕ) {c place column : ℕ} → Cause n s c place column → SheetRefusal n c place column
+unfolding testsAt lineAt
 cause-number n s (size h) = wrongLength
-cause-number n s (line k h l p f) = tests-number (before n s k) k (eqb (suc k) (lineCount n s)) (lineAt n s k) f
+cause-number n s (line k h l p f w) = tests-number n (before n s k) k (eqb (suc k) (lineCount n s)) (bytesAt n s k) (whole-line n s k l) f w
+
+pub figures-within : {n c place column : ℕ} → SheetRefusal n c place column → (1 ≤ c) × (c ≤ 7) × (column ≤ lineSize n)
+figures-within wrongLength = (omega arith, omega arith, omega arith)
+figures-within (malformed h) = (omega arith, omega arith, omega arith)
+figures-within wrongLetter = (omega arith, omega arith, omega arith)
+figures-within outOfRange = (omega arith, omega arith, omega arith)
+figures-within tooMany = (omega arith, omega arith, omega arith)
+figures-within wrongField = (omega arith, omega arith, omega arith)
+figures-within wrongCount = (omega arith, omega arith, omega arith)

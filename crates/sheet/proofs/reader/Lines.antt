@@ -1,6 +1,5 @@
 -- One turn of the loop over the lines. Assumes nothing.
 use Prim.Native.Nat.{ℕ, zero, suc, _+_, _*_, _%_, _≤_, _<_}
-use native.Mathlib.Nat.{suc-mul, mul-le-mul-right, div-add-mod'}
 use native.Mathlib.Numerals.{add-one}
 use native.Mathlib.Omega.{arith}
 use mathlib.Core.Bool.{Bool, true, false, not, _&&_}
@@ -13,12 +12,12 @@ use lib.ListN.{length, take, drop, replicate}
 use borrow.Author.Tests.{eqb-true, ltb-true}
 use Rattle.scope.specs.Sheet.{Number, Sheet, Letter, H, N, A, O, R, W, Z, mostGates, mostRules, mostWishes, mostLiterals}
 use Rattle.scope.specs.Sheet as scope
-use Rattle.scope.specs.Reading.{literals, zeros, when, joined, rows, tests, add, lengthOk, lineOf, lineSize, lineCount, mostBytes, lineAt, testsAt, read}
+use Rattle.scope.specs.Reading.{literals, zeros, when, joined, rows, tests, add, lengthOk, lineSize, lineCount, mostBytes, lineAt, columnAt, testsAt, read}
 use Rattle.scope.specs.Causes.{Met, before, Passed, size as wrong-size, line}
 use Rattle.scope.specs.laws.Tests.{clash, both, up-to}
-use Rattle.scope.specs.laws.Refusals.{cause-refuses, no-cause-accepts}
+use Rattle.scope.specs.laws.Refusals.{cause-refuses, line-within, column-of, no-cause-accepts}
 use Rattle.sheet.specs.Tables.{padded, tables, filled, refusal, outcome}
-use Rattle.sheet.specs.Lines.{letterFrom, numbersFrom, lineFrom}
+use Rattle.sheet.specs.Lines.{letterFrom, numbersFrom, lineFrom, LineRead}
 use Rattle.sheet.specs.Steps.{Counted, Held, Few, Fault, RoomFor, Room, Sized}
 use Rattle.sheet.specs.laws.Bounds.{Bounds, before-bounds}
 use Rattle.sheet.specs.declared.line.Line.{Line}
@@ -34,6 +33,7 @@ abbrev tablesFrom : Counts → (kind left right rule first second third : List �
 tablesFrom c kind left right rule first second third = record {
   number = 0;
   place = 0;
+  column = 0;
   switches = c .switches;
   faults = c .faults;
   gates = c .gates;
@@ -97,10 +97,7 @@ begun n s = record {
 }
 
 pub line-fits : (n k size count : ℕ) (s : List ℕ) → Sized n s size count → k < count → k * size + lineSize n ≤ length s
-line-fits n k size count s z h =
-    let e : size ≡ lineSize n = z .size in
-    let c : suc k ≤ lineCount n s = omega (arith, z .count) in
-    rw e (omega (arith, suc-mul k (lineSize n), mul-le-mul-right (lineSize n) c, div-add-mod' (length s) (lineSize n)))
+line-fits n k size count s z h = rw (z .size) (line-within n s k (rw (z .count) at h))
 
 module _ (n k : ℕ) (s : List ℕ) (c : Counts) (kind left right rule first second third : List ℕ) (h : Reached n s k c kind left right rule first second third) where
   bounds : Bounds (before n s k)
@@ -111,18 +108,24 @@ module _ (n k : ℕ) (s : List ℕ) (c : Counts) (kind left right rule first sec
 
 -- line l of the code, which is line k, and f, the number of its first unmet test
 module _ (n k size count f : ℕ) (s : List ℕ) (c : Counts) (kind left right rule first second third : List ℕ) (l : Line) (z : Sized n s size count) (h : Reached n s k c kind left right rule first second third) (b : k < count)
-    (e : lineFrom n l ≡ lineOf n (take (lineSize n) (drop (k * size) s)))
+    (e : LineRead n (take (lineSize n) (drop (k * size) s)) l)
     (p : (t : Sheet) → Counted t c → Fault (tests t k (eqb (k + 1) count) (lineFrom n l)) f) where
   read-as : lineFrom n l ≡ lineAt n s k
   unfolding lineAt
-  read-as = rw (z .size) at e
+  read-as = rw (z .size) at (e .line)
 
   told : Fault (testsAt n s (before n s k) k) f
   unfolding testsAt
   told = rw (← read-as, ← z .count, ← add-one k) (p (before n s k) (h .held .counts))
 
-  pub turned-down : f ≢ 0 → refusal f (k + 1) ≡ outcome (read n s)
-  turned-down q = rw (cause-refuses n s (line k (z .right) (rw (z .count) at b) (h .passed) (told .first q)), add-one)
+  column-as : l .column ≡ columnAt n s k
+  unfolding columnAt
+  column-as = rw (z .size) at (e .column)
+
+  pub turned-down : f ≢ 0 → refusal f (k + 1) (l .column) ≡ outcome (read n s)
+  turned-down q =
+      let w : k < lineCount n s = rw (z .count) at b in
+      rw (cause-refuses n s (line k (z .right) w (h .passed) (told .first q) (column-of n s k w)), add-one, column-as)
 
   -- the line as it is taken in
   abbrev o : Option scope.Line
@@ -132,7 +135,7 @@ module _ (n k size count f : ℕ) (s : List ℕ) (c : Counts) (kind left right r
   unfolding testsAt lineFrom
   passes q =
       let m : Passed n s k = told .met q in
-      (m, sym read-as ∙ formed-line (before n s k) k (eqb (suc k) (lineCount n s)) (letterFrom (l .letter)) (numbersFrom n (l .numbers)) (l .formed) (rw (← read-as) at m))
+      (m, sym read-as ∙ formed-line (before n s k) k (eqb (suc k) (lineCount n s)) (letterFrom (l .letter)) (numbersFrom n (l .numbers)) (eqb (l .column) 0) (rw (← read-as) at m))
 
   pub found-room : f ≡ 0 → Room c o
   unfolding testsAt
@@ -161,5 +164,5 @@ taken-in n k size count s c kind left right rule first second third z b h =
 pub length-told : (n m : ℕ) {whole right : Bool} → right ≡ (ltb 0 m && whole) → whole ≡ (leb m (mostBytes n) && eqb (m % lineSize n) 0) → right ≡ lengthOk n m
 length-told n m e f = e ∙ ap (λ w. ltb 0 m && w) f
 
-pub wrong-length : (n : ℕ) (s : List ℕ) → lengthOk n (length s) ≡ false → refusal 1 0 ≡ outcome (read n s)
+pub wrong-length : (n : ℕ) (s : List ℕ) → lengthOk n (length s) ≡ false → refusal 1 0 0 ≡ outcome (read n s)
 wrong-length n s e = rw (cause-refuses n s (wrong-size e))

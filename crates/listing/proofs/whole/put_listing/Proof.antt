@@ -61,8 +61,8 @@ returns c =
     let w₁ : length (r₁ .result) ≡ 17 = search needs in
     let w₂ : length (r₂ .result) ≡ 17 = search needs in
     let z = r₂ .ensures in
-    listing-wrote (a .out .now) (o₁ .last .0) (o₂ .last .0) (o₃ .last .0) (o₄ .last .0) (a .number) (a .place) (a .cost) (planRowsOf (a .found) (a .a) (a .plan .0) ws) (a .list .now) m e (e + 17) (n .result)
-    (wrote-row (a .out .now) 0 (row "A" (a .number) (a .place) (a .cost)) (r₁ .result) (o₁ .last .0) 17 (r₁ .ensures) w₁ (o₁ .ensures) refl)
+    listing-wrote (a .out .now) (o₁ .last .0) (o₂ .last .0) (o₃ .last .0) (o₄ .last .0) (a .number) (a .place) (a .figure) (planRowsOf (a .found) (a .a) (a .plan .0) ws) (a .list .now) m e (e + 17) (n .result)
+    (wrote-row (a .out .now) 0 (row "A" (a .number) (a .place) (a .figure)) (r₁ .result) (o₁ .last .0) 17 (r₁ .ensures) w₁ (o₁ .ensures) refl)
     (o₂ .ensures .0)
     (wrote-each patternRow (o₂ .last .0) m (a .list .now) (length (a .list .now)) (o₃ .last .0) e (o₃ .ensures) refl refl)
     (wrote-row (o₃ .last .0) e (row "Z" (n .result) 0 0) (r₂ .result) (o₄ .last .0) (e + 17) z w₂ (o₄ .ensures) refl)

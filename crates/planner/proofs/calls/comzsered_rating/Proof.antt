@@ -14,7 +14,7 @@ flag-requires c κs = search needs
 returns : tie.Need-returns
 returns c =
     let r = c .before .rate .result in
-    ap ratingFigures (sym (c .before .rate .ensures)) ∙ ap (λ m. r .number ∷ r .place ∷ r .cost ∷ m ∷ r .pattern .0 ∷ r .length ∷ []) (sym (c .flag .ensures))
+    ap ratingFigures (sym (c .before .rate .ensures)) ∙ ap (λ m. r .number ∷ r .place ∷ r .column ∷ r .cost ∷ m ∷ r .pattern .0 ∷ r .length ∷ []) (sym (c .flag .ensures))
 
 pub comzsered-rating-spec : {M : Type 1} → statement M
 comzsered-rating-spec = tie.close (tie.spec rate-requires flag-requires returns)

@@ -1,3 +1,4 @@
+use borrow.Author.Tests.{eq-eqb, ne-eqb}
 use Rattle.sheet.specs.Lines.{letterFrom, lineFrom}
 use Rattle.sheet.proofs.causes.Rows.{form, joined-none}
 use borrow.Author.Needs.{needs}
@@ -9,11 +10,11 @@ letter-fault-requires c κs = search needs
 
 returns : tie.Need-returns
 unfolding lineFrom
-returns c = λ t h. rw (c .before .before .if1 .taken) (c .letter-fault .ensures t h)
+returns c = λ t h. rw (eq-eqb _ _ (c .before .before .if1 .taken)) (c .letter-fault .ensures t h)
 
 returns-2 : tie.Need-returns-2
 unfolding lineFrom
-returns-2 c = λ t h. rw (c .if1 .left, joined-none (letterFrom (c .before .args .l .letter))) form
+returns-2 c = λ t h. rw (ne-eqb _ _ (c .if1 .left), joined-none (letterFrom (c .before .before .args .l .letter))) form
 
 pub line-fault-spec : {M : Type 1} → statement M
 line-fault-spec = tie.close (tie.spec letter-fault-requires returns returns-2)

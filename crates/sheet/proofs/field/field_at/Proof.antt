@@ -1,23 +1,18 @@
-use native.Mathlib.Nat.{add-zero}
-use Prim.Native.Nat.{_+_, _-_, _≤_}
-use mathlib.Core.Path.{_≡_, sym, ap, _∙_}
-use lib.ListN.{take, drop}
+use Prim.Native.Nat.{_-_}
 use Rattle.scope.specs.Sheet.{fieldSize}
-use Rattle.sheet.specs.Columns.{walk, found}
-use Rattle.sheet.specs.declared.field.Scan.the-variants.{Blank}
-use Rattle.sheet.proofs.field.Columns.{walk-found, walk-column, walk-end, part-length}
+use Rattle.sheet.proofs.field.Columns.{Reached, begun, onward, stopped, ended}
 use borrow.Author.Needs.{needs}
 use Rattle.sheet.proofs.field.field_at.Statement.{statement}
 use Rattle.sheet.proofs.field.field_at.Tie as tie
 
 abbrev Inv-loop : tie.InvT-loop
-Inv-loop s at st₀ i₀ st i = (i ≤ fieldSize) × (walk st (take (fieldSize - i) (drop (at + i) s)) ≡ walk Blank (take fieldSize (drop at s)))
+Inv-loop s at st₀ i₀ st i = Reached s at i st
 
 abbrev μ-loop : tie.MeasureT-loop
 μ-loop s at st₀ i₀ st i = fieldSize - i
 
 loop-holds : tie.Need-loop-holds Inv-loop μ-loop
-loop-holds c = (search needs, rw add-zero)
+loop-holds c = begun _ _
 
 add-column : tie.Need-add-column Inv-loop μ-loop
 add-column c = search needs
@@ -34,6 +29,18 @@ sub-column-2 c = search needs
 column-requires : tie.Need-column-requires Inv-loop μ-loop
 column-requires c κs = search needs
 
+is-bad-requires : tie.Need-is-bad-requires Inv-loop μ-loop
+is-bad-requires c κs = search needs
+
+add-stopped : tie.Need-add-stopped Inv-loop μ-loop
+add-stopped c = search needs
+
+stopped-requires : tie.Need-stopped-requires Inv-loop μ-loop
+stopped-requires c κs = search needs
+
+returns : tie.Need-returns Inv-loop μ-loop
+returns c = stopped _ _ (c .before .before .before .before .before .before .before .before .pre) _ _ (c .before .before .before .before .before .before .loop .inv) (c .before .before .before .before .before .loop-test .taken) _ (c .before .before .before .column .ensures) (c .before .before .is-bad .ensures) (c .before .if1 .taken) _ (c .stopped .ensures)
+
 add-i : tie.Need-add-i Inv-loop μ-loop
 add-i c = search needs
 
@@ -41,13 +48,13 @@ loop-less : tie.Need-loop-less Inv-loop μ-loop
 loop-less c = search needs
 
 loop-again : tie.Need-loop-again Inv-loop μ-loop
-loop-again c = (search needs, rw (c .column .ensures) (walk-column _ _ _ _ (c .before .before .loop-test .taken) (c .before .before .before .before .before .pre) ∙ c .before .before .before .loop .inv .1))
+loop-again c = onward _ _ (c .before .before .before .before .before .before .before .pre) _ _ (c .before .before .before .before .before .loop .inv) (c .before .before .before .before .loop-test .taken) _ (c .before .before .column .ensures) (c .before .is-bad .ensures) (c .if1 .left)
 
 field-of-requires : tie.Need-field-of-requires Inv-loop μ-loop
 field-of-requires c κs = search needs
 
-returns : tie.Need-returns Inv-loop μ-loop
-returns c = c .field-of .ensures ∙ ap found (sym (walk-end _ (c .before .before .loop .i) _ (c .before .loop-test .left)) ∙ c .before .before .loop .inv .1) ∙ walk-found _ (part-length _ _ fieldSize (c .before .before .before .before .pre))
+returns-2 : tie.Need-returns-2 Inv-loop μ-loop
+returns-2 c = ended _ _ (c .before .before .before .before .pre) _ _ (c .before .before .loop .inv) (c .before .loop-test .left) _ (c .field-of .ensures)
 
 pub field-at-spec : {M : Type 1} → statement M
 field-at-spec =
@@ -61,8 +68,12 @@ field-at-spec =
     sub-column
     sub-column-2
     column-requires
+    is-bad-requires
+    add-stopped
+    stopped-requires
+    returns
     add-i
     loop-less
     loop-again
     field-of-requires
-    returns)
+    returns-2)

@@ -1,3 +1,4 @@
+use native.Mathlib.Omega.{arith}
 use Rattle.sheet.specs.Columns.{fieldFrom}
 use borrow.Author.Needs.{needs}
 use Rattle.sheet.proofs.field.field_of.Statement.{statement}
@@ -6,14 +7,14 @@ use Rattle.sheet.proofs.field.field_of.Tie as tie
 enum-told : tie.Need-enum-told
 enum-told c = search needs
 
-none-requires : tie.Need-none-requires
-none-requires c κs = search needs
+stopped-requires : tie.Need-stopped-requires
+stopped-requires c κs = search needs
 
 enum-told-2 : tie.Need-enum-told-2
 enum-told-2 c = search needs
 
-none-requires-2 : tie.Need-none-requires-2
-none-requires-2 c κs = search needs
+stopped-requires-2 : tie.Need-stopped-requires-2
+stopped-requires-2 c κs = search needs
 
 enum-known-st : tie.Need-enum-known-st
 enum-known-st c = search needs
@@ -21,36 +22,36 @@ enum-known-st c = search needs
 enum-told-3 : tie.Need-enum-told-3
 enum-told-3 c = search needs
 
-none-requires-3 : tie.Need-none-requires-3
-none-requires-3 c κs = search needs
+stopped-requires-3 : tie.Need-stopped-requires-3
+stopped-requires-3 c κs = search needs
 
 returns : tie.Need-returns
 unfolding fieldFrom
-returns c = cc
+returns c = (rw (c .stopped .ensures, c .before .enum-told .given .1), rw (c .stopped .ensures) (omega arith))
 
 returns-2 : tie.Need-returns-2
 unfolding fieldFrom
-returns-2 c = cc
+returns-2 c = (rw (c .stopped2 .ensures, c .before .enum-told2 .given .1), rw (c .stopped2 .ensures) (omega arith))
 
 returns-3 : tie.Need-returns-3
 unfolding fieldFrom
-returns-3 c = cc
+returns-3 c = (cc, omega arith)
 
 returns-4 : tie.Need-returns-4
 unfolding fieldFrom
-returns-4 c = cc
+returns-4 c = (rw (c .stopped3 .ensures, c .before .enum-told3 .given .1), rw (c .stopped3 .ensures) (omega arith))
 
 pub field-of-spec : {M : Type 1} → statement M
 field-of-spec =
     tie.close
     (tie.spec
     enum-told
-    none-requires
+    stopped-requires
     enum-told-2
-    none-requires-2
+    stopped-requires-2
     enum-known-st
     enum-told-3
-    none-requires-3
+    stopped-requires-3
     returns
     returns-2
     returns-3

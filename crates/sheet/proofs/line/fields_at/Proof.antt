@@ -1,23 +1,18 @@
-use borrow.Author.Tests.{not-true, not-false}
-use Rattle.sheet.proofs.line.Parts.{after, left, left-start, left-end, field-taken, field-lost}
-use Rattle.sheet.specs.Lines.{numbersFrom, fieldsFrom}
-use Rattle.scope.specs.Reading.{fieldsOf}
-use Rattle.scope.specs.Sheet.{fieldSize}
-use Prim.Native.Nat.{_+_, _-_, _*_, _≤_}
-use lib.ListN.{length, take, drop}
-use mathlib.Core.Path.{_≡_, refl, sym, _∙_}
+use Prim.Native.Nat.{_-_}
+use mathlib.Core.Path.{refl}
+use Rattle.sheet.proofs.line.Parts.{Reached, begun, field-taken, field-lost, line-fed, not-fed}
 use borrow.Author.Needs.{needs}
 use Rattle.sheet.proofs.line.fields_at.Statement.{statement}
 use Rattle.sheet.proofs.line.fields_at.Tie as tie
 
 abbrev Inv-loop : tie.InvT-loop
-Inv-loop s at n numbers₀ i₀ numbers i = (i ≤ n) × (length numbers ≡ 4) × (after (numbersFrom i numbers) (left s at n i) ≡ fieldsOf n (take (n * fieldSize + 1) (drop at s)))
+Inv-loop s at n numbers₀ i₀ numbers i = Reached s at n i numbers
 
 abbrev μ-loop : tie.MeasureT-loop
 μ-loop s at n numbers₀ i₀ numbers i = n - i
 
 loop-holds : tie.Need-loop-holds Inv-loop μ-loop
-loop-holds c = (search needs, refl, left-start (c .before .args .s .now) (c .before .args .at) _ _)
+loop-holds c = begun _ _ _ _ refl
 
 mul-field-at : tie.Need-mul-field-at Inv-loop μ-loop
 mul-field-at c = search needs
@@ -28,9 +23,14 @@ add-field-at c = search needs
 field-at-requires : tie.Need-field-at-requires Inv-loop μ-loop
 field-at-requires c κs = search needs
 
+mul-t13 : tie.Need-mul-t13 Inv-loop μ-loop
+mul-t13 c = search needs
+
+add-t14 : tie.Need-add-t14 Inv-loop μ-loop
+add-t14 c = search needs
+
 returns : tie.Need-returns Inv-loop μ-loop
-unfolding fieldsFrom
-returns c = sym (field-lost _ _ _ _ (c .before .before .before .loop-test .taken) (c .before .before .before .before .before .before .pre .1) _ _ (not-true _ (c .if1 .taken)) (c .before .before .field-at .ensures)) ∙ c .before .before .before .before .loop .inv .2
+returns c = let p = c .before .before .before .before .before .before .before .pre in field-lost _ _ _ _ _ (c .before .before .before .before .before .loop .inv) (p .0) (p .1) (c .before .before .before .before .loop-test .taken) _ (c .before .before .before .field-at .ensures) (c .before .if1 .taken)
 
 mul-numbers : tie.Need-mul-numbers Inv-loop μ-loop
 mul-numbers c = search needs
@@ -45,20 +45,25 @@ loop-less : tie.Need-loop-less Inv-loop μ-loop
 loop-less c = search needs
 
 loop-again : tie.Need-loop-again Inv-loop μ-loop
-loop-again c = (search needs, search needs, field-taken _ _ _ _ (c .before .before .before .before .loop-test .taken) (c .before .before .before .before .before .before .before .pre .1) _ _ (search needs) (not-false _ (c .before .if1 .left)) (c .before .before .before .field-at .ensures) ∙ c .before .before .before .before .before .loop .inv .2)
+loop-again c = let p = c .before .before .before .before .before .before .before .pre in field-taken _ _ _ _ _ (c .before .before .before .before .before .loop .inv) (p .0) (p .1) (c .before .before .before .before .loop-test .taken) _ (c .before .before .before .field-at .ensures) (c .before .if1 .left)
 
 mul-end : tie.Need-mul-end Inv-loop μ-loop
 mul-end c = search needs
 
-add-end : tie.Need-add-end Inv-loop μ-loop
-add-end c = search needs
+add-if2 : tie.Need-add-if2 Inv-loop μ-loop
+add-if2 c = search needs
 
-shared-slice-read-end : tie.Need-shared-slice-read-end Inv-loop μ-loop
-shared-slice-read-end c = search needs
+shared-slice-read-if2 : tie.Need-shared-slice-read-if2 Inv-loop μ-loop
+shared-slice-read-if2 c = search needs
+
+add-t22 : tie.Need-add-t22 Inv-loop μ-loop
+add-t22 c = search needs
 
 returns-2 : tie.Need-returns-2 Inv-loop μ-loop
-unfolding fieldsFrom
-returns-2 c = left-end _ _ _ _ _ (c .before .before .before .before .pre .1) (c .before .before .loop .inv .0) (c .before .loop-test .left) ∙ c .before .before .loop .inv .2
+returns-2 c = let p = c .before .before .before .before .before .pre in not-fed _ _ _ _ _ (c .before .before .before .loop .inv) (p .0) (p .1) (c .before .before .loop-test .left) (c .if2 .taken)
+
+returns-3 : tie.Need-returns-3 Inv-loop μ-loop
+returns-3 c = let p = c .before .before .before .before .before .pre in line-fed _ _ _ _ _ (c .before .before .before .loop .inv) (p .0) (p .1) (c .before .before .loop-test .left) (c .if2 .left)
 
 pub fields-at-spec : {M : Type 1} → statement M
 fields-at-spec =
@@ -70,6 +75,8 @@ fields-at-spec =
     mul-field-at
     add-field-at
     field-at-requires
+    mul-t13
+    add-t14
     returns
     mul-numbers
     array-set-from-numbers
@@ -77,6 +84,8 @@ fields-at-spec =
     loop-less
     loop-again
     mul-end
-    add-end
-    shared-slice-read-end
-    returns-2)
+    add-if2
+    shared-slice-read-if2
+    add-t22
+    returns-2
+    returns-3)

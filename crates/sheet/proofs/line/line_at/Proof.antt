@@ -1,7 +1,4 @@
-use mathlib.Core.Path.{sym, ap₂, _∙_}
-use Rattle.sheet.proofs.line.Parts.{line-parts}
-use Rattle.scope.specs.Reading.{joined}
-use Rattle.sheet.specs.Lines.{fieldsFrom, lineFrom}
+use Rattle.sheet.proofs.line.Parts.{line-is}
 use borrow.Author.Needs.{needs}
 use Rattle.sheet.proofs.line.line_at.Statement.{statement}
 use Rattle.sheet.proofs.line.line_at.Tie as tie
@@ -18,9 +15,14 @@ add-fields-at c = search needs
 fields-at-requires : tie.Need-fields-at-requires
 fields-at-requires c κs = search needs
 
+is-known-requires : tie.Need-is-known-requires
+is-known-requires c κs = search needs
+
+line-column-requires : tie.Need-line-column-requires
+line-column-requires c κs = search needs
+
 returns : tie.Need-returns
-unfolding fieldsFrom lineFrom
-returns c = ap₂ joined (c .before .before .letter-of .ensures) (c .before .fields-at .ensures) ∙ sym (line-parts _ _ _ (c .before .before .before .before .before .pre .1))
+returns c = let p = c .before .before .before .before .before .before .before .pre in line-is _ _ _ _ _ _ (p .1) (c .before .before .before .before .letter-of .ensures) (c .before .before .before .fields-at .ensures) (c .before .is-known .ensures) (c .line-column .ensures)
 
 pub line-at-spec : {M : Type 1} → statement M
 line-at-spec =
@@ -30,4 +32,6 @@ line-at-spec =
     letter-of-requires
     add-fields-at
     fields-at-requires
+    is-known-requires
+    line-column-requires
     returns)
