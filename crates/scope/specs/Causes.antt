@@ -26,7 +26,7 @@ Stops n s c = Begins n (take (c - 1) s) × ¬ Begins n (take c s)
 -- the column that is told with a line
 pub data Column (n : ℕ) (s : List ℕ) : ℕ → Type 0 where
   stopped : {c : ℕ} → Stops n s c → Column n s c
-  none : (l : Line) → Printed n s l → Column n s 0
+  wellFormed : (l : Line) → Printed n s l → Column n s 0
 
 -- ---- the first cause
 

@@ -66,9 +66,13 @@ lineOf n (b ∷ s) = joined (letterOf b) (fieldsOf n s)
 
 -- ---- the column of a malformed line; `column-told` (Claims) says all of it
 
--- a beginning of a well-formed line, put over the beginning of this one, leaves a well-formed line
+-- five digits: what begins a number goes on to one with as many of them as it wants
+abbrev pub full : Number
+full = plus 11111
+
+-- so a beginning of a well-formed line, put over the beginning of this one, leaves a well-formed line
 abbrev pub model : ℕ → List ℕ
-model n = lineBytes (line H (replicate n (plus 11111)))
+model n = lineBytes (line H (replicate n full))
 
 abbrev pub formed : {A : Type 0} → Option A → Bool
 formed none = false

@@ -11,10 +11,9 @@ use mathlib.Core.Path.{_≡_, refl, sym, ap, ap₂, subst, _∙_}
 use lib.ListN.{length, take, drop, replicate, length-append, length-replicate, length-take, length-drop, take-append-drop, drop-of-length-le, replicate-append-replicate}
 use lib.Seq.{take-at, drop-at, take-add, take-all, take-length, length-take-le, take-take, take-append-le, take-append-add, drop-append-le, drop-append-add}
 use borrow.Author.Tests.{ne-eqb, not-true, not-false}
-use Rattle.scope.specs.Sheet.{Number, plus, fieldSize, digit, decimal, field, fits, Letter, H, letterByte, Line, line, fieldsBytes, lineBytes}
-use Rattle.scope.specs.Reading.{fieldOf, also, fieldsOf, letterOf, joined, lineOf, model, formed, begins, columnOf, lineSize}
-use Rattle.scope.specs.Causes.{Printed, Begins, Stops, Column, stopped}
-use Rattle.scope.specs.Causes as causes
+use Rattle.scope.specs.Sheet.{Number, fieldSize, digit, decimal, field, fits, Letter, H, letterByte, Line, line, fieldsBytes, lineBytes}
+use Rattle.scope.specs.Reading.{fieldOf, also, fieldsOf, letterOf, joined, lineOf, full, model, formed, begins, columnOf, lineSize}
+use Rattle.scope.specs.Causes.{Printed, Begins, Stops, Column, stopped, wellFormed}
 use Rattle.scope.specs.laws.Tests.{clash}
 use Rattle.scope.specs.laws.Fields.{length-field, field-iff}
 use Rattle.scope.specs.laws.Digits.{Part, ones, filled, field-part}
@@ -36,10 +35,6 @@ also-formed (some x) none = refl
 also-formed (some x) (some xs) = refl
 
 -- ---- a field
-
--- the model's
-abbrev pub full : Number
-full = plus 11111
 
 abbrev pub fieldBegins : List ℕ → Bool
 fieldBegins p = formed (fieldOf (p ++ drop (length p) (field full)))
@@ -237,13 +232,13 @@ module _ (n : ℕ) (s : List ℕ) where
   -- and what is told of it
   pub column-is : (c : ℕ) → Column n s c → Option·getD (columnOf n s) 0 ≡ c
   column-is c (stopped h) = rw (column-iff c .1 h)
-  column-is c (causes.none l h) = rw (printed-none l h)
+  column-is c (wellFormed l h) = rw (printed-none l h)
 
   pub column-told : lineSize n ≤ length s → Column n s (Option·getD (columnOf n s) 0)
   column-told w = go (columnOf n s) refl
     where
       go : (o : Option ℕ) → columnOf n s ≡ o → Column n s (Option·getD o 0)
-      go none e = let (l, h) = none-printed w e in causes.none l h
+      go none e = let (l, h) = none-printed w e in wellFormed l h
       go (some c) e = stopped (column-iff c .0 e)
 
 -- ---- part by part

@@ -13,8 +13,7 @@ use lib.Seq.{length-take-le}
 use borrow.Author.Tests.{eqb-true}
 use Rattle.scope.specs.Sheet.{Number, Sheet, Letter, H, N, A, O, R, W, Z, Line, mostSwitches, mostFaults, All}
 use Rattle.scope.specs.Reading.{upTo, at, zeros, Row, firstFault, rows, tests, started, accepted, refused, lineOf, lineSize, lengthOk, lineCount, bytesAt, lineAt, columnAt, testsAt, readFrom, read}
-use Rattle.scope.specs.Causes.{Column, stopped, Met, First, here, later, before, Passed, Cause, size, line, NoCause, SheetRefusal, wrongLength, malformed, wrongLetter, outOfRange, tooMany, wrongField, wrongCount}
-use Rattle.scope.specs.Causes as causes
+use Rattle.scope.specs.Causes.{Column, stopped, wellFormed, Met, First, here, later, before, Passed, Cause, size, line, NoCause, SheetRefusal, wrongLength, malformed, wrongLetter, outOfRange, tooMany, wrongField, wrongCount}
 use Rattle.scope.specs.laws.Tests.{both, up-to}
 use Rattle.scope.specs.laws.Lines.{line-iff}
 use Rattle.scope.specs.laws.Beginnings.{stops-within, column-is, column-told}
@@ -173,12 +172,12 @@ tests-number n t k last s l f w = go (lineOf n s) refl f w
         within : (c : ℕ) → (1 ≤ c) × (c ≤ length s) → SheetRefusal n 2 (suc k) c
         within zero (a, b) = absurd (omega arith)
         within (suc c) (a, b) = malformed {c = c} (omega arith)
-    stop e (causes.none x h) = absurd (Option·none-ne-some x (sym e ∙ line-iff n s x .1 h))
+    stop e (wellFormed x h) = absurd (Option·none-ne-some x (sym e ∙ line-iff n s x .1 h))
 
     go : {m c : ℕ} (o : Option Line) → lineOf n s ≡ o → First m (tests t k last o) → Column n s c → SheetRefusal n m (suc k) c
     go none e here w = stop e w
     go {c} (some x) e f w =
-        let z : c ≡ 0 = sym (column-is n s c w) ∙ column-is n s 0 (causes.none x (line-iff n s x .0 e)) in
+        let z : c ≡ 0 = sym (column-is n s c w) ∙ column-is n s 0 (wellFormed x (line-iff n s x .0 e)) in
         rw z (rows-number n t k last (x .letter) (x .fields) f)
 
 pub cause-number : (n : ℕ) (s : List ℕ) {c place column : ℕ} → Cause n s c place column → SheetRefusal n c place column

@@ -15,11 +15,11 @@ use lib.Seq.{take-suc, take-all, length-take-le, getD-take, getD-drop}
 use borrow.Author.Tests.{eqb-true, eqb-false, ne-eqb, lt-ltb, le-leb, leb-true}
 use Rattle.scope.specs.Sheet.{number, fieldSize, digit, decimal, signed, field, fits}
 use Rattle.scope.specs.Sheet as scope
-use Rattle.scope.specs.Reading.{formed, fieldOf}
+use Rattle.scope.specs.Reading.{full, formed, fieldOf}
 use Rattle.scope.specs.laws.Tests.{both, clash, same-some}
 use Rattle.scope.specs.laws.Fields.{by-digits, length-snoc, length-field, Fitting, fitting, field-iff}
 use Rattle.scope.specs.laws.Digits.{spaces, zero-digit, columns-of, Shown, shown-field, Part, part-digit, shown-part, spaces-part, blank-part}
-use Rattle.scope.specs.laws.Beginnings.{full, fieldBegins, part-begins, field-begins, Stop}
+use Rattle.scope.specs.laws.Beginnings.{fieldBegins, part-begins, field-begins, Stop}
 use Rattle.sheet.specs.declared.field.Scan.{Scan}
 use Rattle.sheet.specs.declared.field.Scan.the-variants.{Blank, Minus, Number, Bad}
 use Rattle.sheet.specs.Columns.{pick, withDigit, unlessLast, next, walk, bad, found, fieldFrom, FieldRead}

@@ -17,7 +17,7 @@ use Rattle.scope.specs.Sheet as scope
 use Rattle.scope.specs.Reading.{when, also, fieldOf, fieldsOf, letterOf, joined, lineOf, formed, columnOf, lineSize, at}
 use Rattle.scope.specs.laws.Beginnings.{some-formed, fieldBegins, fieldsBegin, Stop, field-stop, rest-stop, end-stop, letter-stop, after-letter, stop-column, column-is}
 use Rattle.scope.specs.laws.Lines.{line-iff}
-use Rattle.scope.specs.Causes as causes
+use Rattle.scope.specs.Causes.{wellFormed}
 use Rattle.sheet.specs.Columns.{numberFrom, fieldFrom, FieldRead}
 use Rattle.sheet.specs.Lines.{numbersFrom, fieldsFrom, FieldsRead, letterFrom, lineFrom, lineColumn, LineRead}
 use Rattle.sheet.specs.declared.field.Number.{Number}
@@ -200,7 +200,7 @@ module _ (n b : ℕ) (t : List ℕ) (xs : List scope.Number) where
   line-told none c e g h = (ap (λ p. joined p (fieldsOf n t)) e, sym (ap (λ p. Option·getD p 0) (stop-column n (b ∷ t) 1 (letter-stop n b t (sym (ap formed e))))))
   line-told (some a) zero e g h =
       let l : joined (some a) (some xs) ≡ lineOf n (b ∷ t) = ap₂ joined e g in
-      (l, sym (column-is n (b ∷ t) 0 (causes.none (scope.line a xs) (line-iff n (b ∷ t) (scope.line a xs) .0 (sym l)))))
+      (l, sym (column-is n (b ∷ t) 0 (wellFormed (scope.line a xs) (line-iff n (b ∷ t) (scope.line a xs) .0 (sym l)))))
   line-told (some a) (suc c) e g h =
       let y : eqb (suc c) 0 ≡ false = ne-eqb (suc c) 0 (λ z. omega arith) in
       let z : eqb (suc (suc c)) 0 ≡ false = ne-eqb (suc (suc c)) 0 (λ z. omega arith) in
