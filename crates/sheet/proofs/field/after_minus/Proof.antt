@@ -9,7 +9,7 @@ with-digit-requires c κs = search needs
 
 returns : tie.Need-returns
 unfolding next pick
-returns c = search tests
+returns c = rw (c .match .keys1)
 
 returns-2 : tie.Need-returns-2
 unfolding next pick

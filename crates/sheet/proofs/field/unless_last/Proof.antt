@@ -1,15 +1,15 @@
-use Rattle.sheet.proofs.Rules.{tests}
+use borrow.Author.Tests.{eq-eqb, ne-eqb}
 use Rattle.sheet.specs.Columns.{unlessLast, pick}
 use Rattle.sheet.proofs.field.unless_last.Statement.{statement}
 use Rattle.sheet.proofs.field.unless_last.Tie as tie
 
 returns : tie.Need-returns
 unfolding unlessLast pick
-returns c = search tests
+returns c = rw (eq-eqb (c .before .args .left) 0 (c .if1 .taken))
 
 returns-2 : tie.Need-returns-2
 unfolding unlessLast pick
-returns-2 c = search tests
+returns-2 c = rw (ne-eqb (c .before .args .left) 0 (c .if1 .left))
 
 pub unless-last-spec : {M : Type 1} → statement M
 unless-last-spec = tie.close (tie.spec returns returns-2)
