@@ -133,7 +133,7 @@ fn stopped(column: usize) -> Field
     }
 }
 
-// All five columns are read.
+// All five columns are read and none of them was bad, so that a number is left.
 fn field_of(st: Scan) -> Field
     ensures { λ r. ⌜ (fieldFrom r ≡ found st) × (r .column ≤ fieldSize) ⌝ }
 {
