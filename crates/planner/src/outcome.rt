@@ -16,8 +16,6 @@ pub struct Outcome {
     pub length: usize,
 }
 
-pub const MALFORMED: u32 = 2;
-
 pub const NO_PLAN: u32 = 8;
 
 pub const NO_ROOM: u32 = 9;

@@ -1,6 +1,5 @@
 // The program's listing.
 use crate::answer::answer;
-use crate::outcome::MALFORMED;
 use crate::outcome::Outcome;
 use crate::rating::wide;
 use listing::whole::MOST_BYTES;
@@ -26,7 +25,7 @@ fn figure(r: Outcome) -> u32
     requires { ⌜ third (resultOf r) < 100000 ⌝ }
     ensures { λ n. ⌜ n ≡ third (resultOf r) ⌝ }
 {
-    if r.number == MALFORMED {
+    if r.number == sheet::MALFORMED {
         return narrow(r.column);
     }
     r.cost

@@ -30,7 +30,7 @@ const MOST_RULES: u32 = tables::MOST_RULES as u32;
 const MOST_WISHES: u32 = tables::MOST_WISHES as u32;
 
 // line malformed or letter unknown
-const FORM: u32 = 2;
+pub const MALFORMED: u32 = 2;
 // letter not allowed at this line
 const ORDER: u32 = 3;
 // switches or faults outside their range
@@ -138,7 +138,7 @@ fn letter_fault(
         Letter::Rule => rule_fault(c, xs, k, last, n),
         Letter::Wish => wish_fault(c, xs, k, last, n),
         Letter::End => end_fault(xs, k, last, n),
-        Letter::Unknown => FORM,
+        Letter::Unknown => MALFORMED,
     }
 }
 
@@ -152,5 +152,5 @@ pub fn line_fault(c: Counts, l: Line, k: usize, last: bool, n: usize) -> u32
         let xs = l.numbers;
         return letter_fault(c, letter, xs, k, last, n);
     }
-    FORM
+    MALFORMED
 }

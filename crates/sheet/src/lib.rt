@@ -8,5 +8,6 @@ mod line;
 mod reader;
 mod tables;
 
+pub use causes::MALFORMED;
 pub use reader::read;
 pub use tables::Tables;

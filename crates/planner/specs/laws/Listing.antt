@@ -27,12 +27,12 @@ use Rattle.scope.specs.laws.Inverse.{read-iff}
 
 -- ---- figures that fit
 
-head-fits : (s : List ℕ) (o : Read) (a : Answer) → All (λ r. All (λ x. fits x ≡ true) (r .fields)) (ended (answerRows o a)) → (a .result .number < 100000) × (a .result .place < 100000) × (third (a .result) < 100000)
-head-fits s o a ((p, (q, (r, t))), rest) = (omega (arith, leb-true (a .result .number) 99999 p), omega (arith, leb-true (a .result .place) 99999 q), omega (arith, leb-true (third (a .result)) 99999 r))
+head-fits : (o : Read) (a : Answer) → All (λ r. All (λ x. fits x ≡ true) (r .fields)) (ended (answerRows o a)) → (a .result .number < 100000) × (a .result .place < 100000) × (third (a .result) < 100000)
+head-fits o a ((p, (q, (r, t))), rest) = (omega (arith, leb-true (a .result .number) 99999 p), omega (arith, leb-true (a .result .place) 99999 q), omega (arith, leb-true (third (a .result)) 99999 r))
 
-pub figures-fit : (s : List ℕ) → (answer s (replicate room 0) .result .number < 100000) × (answer s (replicate room 0) .result .place < 100000) × (third (answer s (replicate room 0) .result) < 100000)
+figures-fit : (s : List ℕ) → (answer s (replicate room 0) .result .number < 100000) × (answer s (replicate room 0) .result .place < 100000) × (third (answer s (replicate room 0) .result) < 100000)
 unfolding outputRows
-figures-fit s = head-fits s (read fieldCount s) (answer s (replicate room 0)) (output-fits s)
+figures-fit s = head-fits (read fieldCount s) (answer s (replicate room 0)) (output-fits s)
 
 -- ---- the wishes of what was read, also after a refusal
 

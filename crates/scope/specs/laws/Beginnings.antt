@@ -11,7 +11,7 @@ use mathlib.Core.Path.{_≡_, refl, sym, ap, ap₂, subst, _∙_}
 use lib.ListN.{length, take, drop, replicate, length-append, length-replicate, length-take, length-drop, take-append-drop, drop-of-length-le, replicate-append-replicate}
 use lib.Seq.{take-at, drop-at, take-add, take-all, take-length, length-take-le, take-take, take-append-le, take-append-add, drop-append-le, drop-append-add}
 use borrow.Author.Tests.{ne-eqb, not-true, not-false}
-use Rattle.scope.specs.Sheet.{Number, fieldSize, digit, decimal, field, fits, Letter, H, letterByte, Line, line, fieldsBytes, lineBytes}
+use Rattle.scope.specs.Sheet.{Number, fieldSize, digit, decimal, field, fits, Letter, H, letterByte, Line, fieldsBytes, lineBytes}
 use Rattle.scope.specs.Reading.{fieldOf, also, fieldsOf, letterOf, joined, lineOf, full, model, formed, begins, columnOf, lineSize}
 use Rattle.scope.specs.Causes.{Printed, Begins, Stops, Column, stopped, wellFormed}
 use Rattle.scope.specs.laws.Tests.{clash}
@@ -64,12 +64,12 @@ field-begins x p (b ∷ v) f e = let (m, n, h) = field-part x p (b ∷ v) f e (o
 abbrev pub fieldsBegin : ℕ → List ℕ → Bool
 fieldsBegin n p = formed (fieldsOf n (p ++ drop (length p) (fieldsBytes (replicate n full))))
 
-all-fit : (n : ℕ) → Fit (replicate n full)
-all-fit zero = tt
-all-fit (suc n) = (refl, all-fit n)
-
 model-fields : (n : ℕ) → formed (fieldsOf n (fieldsBytes (replicate n full))) ≡ true
 model-fields n = some-formed (fields-iff n (fieldsBytes (replicate n full)) (replicate n full) .1 record { printed = refl; count = length-replicate n full; fit = all-fit n })
+  where
+    all-fit : (n : ℕ) → Fit (replicate n full)
+    all-fit zero = tt
+    all-fit (suc n) = (refl, all-fit n)
 
 -- s is q, five bytes, and r
 fields-formed : (n : ℕ) (s q r : List ℕ) → s ≡ q ++ r → length q ≡ fieldSize → formed (fieldsOf (suc n) s) ≡ (formed (fieldOf q) && formed (fieldsOf n r))
@@ -81,14 +81,14 @@ module _ (n : ℕ) where
   rest = fieldsBytes (replicate n full)
 
   -- within the first field, and past it
-  pub first-begins : (p : List ℕ) → length p ≤ fieldSize → fieldsBegin (suc n) p ≡ fieldBegins p
+  first-begins : (p : List ℕ) → length p ≤ fieldSize → fieldsBegin (suc n) p ≡ fieldBegins p
   unfolding fieldsBytes
   first-begins p l =
       let q : List ℕ = p ++ drop (length p) (field full) in
       let e : p ++ drop (length p) (field full ++ rest) ≡ q ++ rest = ap (λ s. p ++ s) (drop-append-le (length p) (field full) rest (omega (arith, length-field full refl))) ∙ sym (append-assoc p (drop (length p) (field full)) rest) in
       fields-formed n (p ++ drop (length p) (field full ++ rest)) q rest e (omega (arith, length-append p (drop (length p) (field full)), length-drop (length p) (field full), length-field full refl)) ∙ rw (model-fields n) (and-true (formed (fieldOf q)))
 
-  pub rest-begins : (q p : List ℕ) → length q ≡ fieldSize → fieldsBegin (suc n) (q ++ p) ≡ (formed (fieldOf q) && fieldsBegin n p)
+  rest-begins : (q p : List ℕ) → length q ≡ fieldSize → fieldsBegin (suc n) (q ++ p) ≡ (formed (fieldOf q) && fieldsBegin n p)
   unfolding fieldsBytes
   rest-begins q p l =
       let i : length (q ++ p) ≡ length (field full) + length p = omega (arith, length-append q p, length-field full refl) in
@@ -96,7 +96,7 @@ module _ (n : ℕ) where
       fields-formed n (q ++ p ++ drop (length (q ++ p)) (field full ++ rest)) q (p ++ drop (length p) rest) (append-assoc q p (drop (length (q ++ p)) (field full ++ rest)) ∙ ap (λ s. q ++ (p ++ s)) d) l
 
 -- p begins the fields, and v is what is left of them
-pub fields-begin : (n : ℕ) (xs : List Number) (p v : List ℕ) → length xs ≡ n → Fit xs → fieldsBytes xs ≡ p ++ v → fieldsBegin n p ≡ true
+fields-begin : (n : ℕ) (xs : List Number) (p v : List ℕ) → length xs ≡ n → Fit xs → fieldsBytes xs ≡ p ++ v → fieldsBegin n p ≡ true
 unfolding fieldsOf fieldsBytes
 fields-begin zero [] [] v c f e = refl
 fields-begin zero [] (b ∷ []) v c f e = let h : code "\n" ≡ b = cc in rw (← h) refl
@@ -130,13 +130,14 @@ joined-formed n b s = go (letterOf b) (fieldsOf n s)
     go (some c) none = refl
     go (some c) (some xs) = refl
 
-pub letter-begins : (n b : ℕ) (p : List ℕ) → begins n (b ∷ p) ≡ (formed (letterOf b) && fieldsBegin n p)
+letter-begins : (n b : ℕ) (p : List ℕ) → begins n (b ∷ p) ≡ (formed (letterOf b) && fieldsBegin n p)
 letter-begins n b p = joined-formed n b (p ++ drop (length p) (fieldsBytes (replicate n full)))
 
 none-begins : (n : ℕ) → begins n [] ≡ true
-none-begins n = some-formed (line-iff n (model n) (line H (replicate n full)) .1 record { bytes = refl; count = length-replicate n full; fit = all-fit n })
+unfolding letterOf
+none-begins n = joined-formed n (letterByte H) (fieldsBytes (replicate n full)) ∙ model-fields n
 
-pub begins-iff : (n : ℕ) (p : List ℕ) → (begins n p ≡ true) ↔ Begins n p
+begins-iff : (n : ℕ) (p : List ℕ) → (begins n p ≡ true) ↔ Begins n p
 begins-iff n p = (to, back p)
   where
     to : begins n p ≡ true → Begins n p
@@ -234,8 +235,8 @@ module _ (n : ℕ) (s : List ℕ) where
   column-is c (stopped h) = rw (column-iff c .1 h)
   column-is c (wellFormed l h) = rw (printed-none l h)
 
-  pub column-told : lineSize n ≤ length s → Column n s (Option·getD (columnOf n s) 0)
-  column-told w = go (columnOf n s) refl
+  pub column-found : lineSize n ≤ length s → Column n s (Option·getD (columnOf n s) 0)
+  column-found w = go (columnOf n s) refl
     where
       go : (o : Option ℕ) → columnOf n s ≡ o → Column n s (Option·getD o 0)
       go none e = let (l, h) = none-printed w e in wellFormed l h

@@ -4,7 +4,7 @@ use Prim.Native.Char.{code}
 use native.Mathlib.Nat.{pow-suc, pow-le-pow-right}
 use native.Mathlib.Omega.{arith}
 use mathlib.Core.Bool.{Bool, true, false}
-use mathlib.Core.List.{List, [], _∷_, _++_, append-assoc, append-nil}
+use mathlib.Core.List.{List, [], _∷_, _++_, append-assoc, append-nil, append-eq-nil-iff}
 use mathlib.Core.Logic.{_⊎_, inl, inr}
 use mathlib.Core.Path.{_≡_, refl, sym, ap, ap₂, subst, _∙_}
 use lib.ListN.{length, replicate, length-append, length-replicate}
@@ -27,7 +27,7 @@ pub record Digits (n : ℕ) (ds : List ℕ) : Type 0 where
 abbrev pub More : ℕ → List ℕ → Type 0
 More n ds = (d : ℕ) → d < 10 → 0 < n * 10 + d → Digits (n * 10 + d) (ds ++ digit d ∷ [])
 
-pub first-digit : More 0 []
+first-digit : More 0 []
 unfolding decimal
 first-digit d h l = record { shown = one; small = omega arith }
   where
@@ -35,7 +35,7 @@ first-digit d h l = record { shown = one; small = omega arith }
     one zero p = absurd (omega arith)
     one (suc w) p = let e : 0 * 10 + d ≡ d = omega arith in rw (e, lt-ltb d 10 h)
 
-pub more-digits : (n : ℕ) (ds : List ℕ) → 0 < n → Digits n ds → More n ds
+more-digits : (n : ℕ) (ds : List ℕ) → 0 < n → Digits n ds → More n ds
 unfolding decimal
 more-digits n ds pos g d h l = record { shown = one; small = rw (length-snoc ds (digit d)) (omega (arith, pow-suc 10 (length ds), g .small)) }
   where
@@ -151,17 +151,10 @@ front-snoc (b ∷ t) v (a ∷ ds) z e = go (front-snoc t v ds z cc)
     go (inl f) = inl (ap₂ (λ x y. x ∷ y) (sym h) f)
     go (inr (u, f)) = inr (u, ap₂ (λ x y. x ∷ y) h f)
 
-front-nil : (t u : List ℕ) → [] ≡ t ++ u → t ≡ []
-front-nil [] u e = refl
-front-nil (b ∷ t) u e = absurd (omega (arith, ap length e))
-
-none-more : (t : List ℕ) → t ≡ [] → (m : ℕ) × More m t
-none-more t e = rw e (0, first-digit)
-
 front-more : (w n : ℕ) (t v : List ℕ) → 0 < n → n < 10 ^ w → decimal w n ≡ t ++ v → (m : ℕ) × More m t
 front-more zero n t v l h e = absurd (omega arith)
 front-more (suc w) n t v l h e = by-digits (λ ds. ds ≡ t ++ v → (ds ≡ decimal (suc w) n) → (m : ℕ) × More m t) w n
-    (λ b e f. go [] n (front-snoc t v [] (digit n) e) f (λ u g. none-more t (front-nil t u g)))
+    (λ b e f. go [] n (front-snoc t v [] (digit n) e) f (λ u g. rw (append-eq-nil-iff {p = t} {q = u} .0 (sym g) .0) (0, first-digit)))
     (λ b e f. go (decimal w (n / 10)) (n % 10) (front-snoc t v (decimal w (n / 10)) (digit (n % 10)) e) f (λ u g. front-more w (n / 10) t u (omega arith) (omega (arith, pow-suc 10 w)) g)) e refl
   where
     go : (ds : List ℕ) (d : ℕ) → (t ≡ ds ++ digit d ∷ []) ⊎ ((u : List ℕ) × (ds ≡ t ++ u)) → ds ++ digit d ∷ [] ≡ decimal (suc w) n → ((u : List ℕ) → ds ≡ t ++ u → (m : ℕ) × More m t) → (m : ℕ) × More m t

@@ -9,7 +9,7 @@ use mathlib.Core.Logic.{_↔_}
 use mathlib.Core.Option.{some, Option·none-ne-some}
 use mathlib.Core.Path.{_≡_, refl, sym, ap, ap₂, subst, _∙_}
 use lib.Dec.{eqb, leb, ltb}
-use lib.ListN.{length, replicate, length-append, length-replicate}
+use lib.ListN.{length, take, drop, replicate, length-append, length-replicate, length-take, length-drop}
 use borrow.Author.Tests.{eqb-true, eq-eqb, ne-eqb, leb-true, ltb-true, ltb-false}
 use Rattle.scope.specs.Sheet.{Number, number, fieldSize, digit, decimal, signed, justified, field, fits}
 use Rattle.scope.specs.Reading.{same, sizeFrom, hasMinus, guess, when, compared, fieldOf}
@@ -30,6 +30,9 @@ same-refl [] = refl
 same-refl (b ∷ s) = rw (eq-eqb b b refl) (same-refl s)
 
 -- ---- decimal digits
+
+pub part-length : (s : List ℕ) (at n : ℕ) → at + n ≤ length s → length (take n (drop at s)) ≡ n
+part-length s at n h = omega (arith, length-take n (drop at s), length-drop at s)
 
 pub length-snoc : {A : Type 0} (s : List A) (a : A) → length (s ++ a ∷ []) ≡ suc (length s)
 length-snoc s a = omega (arith, length-append s (a ∷ []))

@@ -12,7 +12,7 @@ use lib.ListN.{length, take, drop, replicate, length-append, length-replicate, l
 use lib.Seq.{take-at, drop-at, take-add, take-all}
 use borrow.Author.Tests.{eqb-true, eq-eqb, ne-eqb, ltb-true, le-leb, lt-ltb}
 use Rattle.scope.specs.Sheet.{Number, plus, Clause, Gate, Sheet, sheet, points, fits, Letter, H, N, A, O, R, W, Z, Line, line, lineBytes, text, filled, headLine, gateLine, ruleLine, wishLine, endLine, body, sheetLines, sheetBytes, mostSwitches, mostFaults, mostGates, mostRules, mostWishes, mostLiterals, All, Among, Names, Ordered, Wish, Valid}
-use Rattle.scope.specs.Reading.{is, point, zeros, literals, clause, at, rows, tests, started, addWish, make, add, accepted, lineSize, mostBytes, lengthOk, lineCount, lineOf, lineAt, testsAt, readFrom, read}
+use Rattle.scope.specs.Reading.{is, point, zeros, literals, clause, at, rows, tests, started, addWish, make, add, accepted, lineSize, mostBytes, lengthOk, lineCount, lineOf, bytesAt, lineAt, testsAt, readFrom, read}
 use Rattle.scope.specs.Causes.{Printed, Met, before, Passed}
 use Rattle.scope.specs.laws.Tests.{clash, both}
 use Rattle.scope.specs.laws.Fields.{length-snoc}
@@ -37,17 +37,17 @@ module _ (n : ℕ) (wide : 3 ≤ n) (s : List ℕ) where
 
   -- a line that is passed
   record Taken (k : ℕ) (l : Line) : Type 0 where
-    printed : Printed n (take (lineSize n) (drop (k * lineSize n) s)) l
+    printed : Printed n (bytesAt n s k) l
     met : Met (rows (before n s k) k (last k) (l .letter) (l .fields))
     adds : before n s (suc k) ≡ make (before n s k) (l .letter) (l .fields)
 
   taken : (k : ℕ) → Passed n s k → (l : Line) × Taken k l
   unfolding lineAt testsAt before last
-  taken k p = go (lineOf n (take (lineSize n) (drop (k * lineSize n) s))) refl p
+  taken k p = go (lineOf n (bytesAt n s k)) refl p
     where
-      go : (o : Option Line) → lineOf n (take (lineSize n) (drop (k * lineSize n) s)) ≡ o → Met (tests (before n s k) k (last k) o) → (l : Line) × Taken k l
+      go : (o : Option Line) → lineOf n (bytesAt n s k) ≡ o → Met (tests (before n s k) k (last k) o) → (l : Line) × Taken k l
       go none e m = clash (m .0) refl
-      go (some l) e m = (l, record { printed = line-iff n (take (lineSize n) (drop (k * lineSize n) s)) l .0 e; met = m; adds = ap (add (before n s k)) e })
+      go (some l) e m = (l, record { printed = line-iff n (bytesAt n s k) l .0 e; met = m; adds = ap (add (before n s k)) e })
 
   -- the first k lines are those of a valid sheet, without its end
   record Begun (k : ℕ) : Type 0 where
@@ -55,7 +55,7 @@ module _ (n : ℕ) (wide : 3 ≤ n) (s : List ℕ) where
     count : length (body n (before n s k)) ≡ k
     bytes : text (body n (before n s k)) ≡ take (k * lineSize n) s
 
-  next-bytes : (k : ℕ) → take (suc k * lineSize n) s ≡ take (k * lineSize n) s ++ take (lineSize n) (drop (k * lineSize n) s)
+  next-bytes : (k : ℕ) → take (suc k * lineSize n) s ≡ take (k * lineSize n) s ++ bytesAt n s k
   next-bytes k = ap (λ m. take m s) (suc-mul k (lineSize n)) ∙ take-add (k * lineSize n) (lineSize n) s
 
   begun-one : Passed n s 0 → (last 0 ≡ false) × Begun 1
@@ -71,7 +71,7 @@ module _ (n : ℕ) (wide : 3 ≤ n) (s : List ℕ) where
   -- the lines to the last
   data Next (k : ℕ) : Type 0 where
     on : Begun (suc k) → last k ≡ false → Next k
-    ended : before n s (suc k) ≡ before n s k → lineBytes (endLine n k) ≡ take (lineSize n) (drop (k * lineSize n) s) → last k ≡ true → Next k
+    ended : before n s (suc k) ≡ before n s k → lineBytes (endLine n k) ≡ bytesAt n s k → last k ≡ true → Next k
 
   next : (k : ℕ) → k ≢ 0 → Begun k → Passed n s k → Next k
   next k h b p = let (l, t) = taken k p in go l t (step n wide (before n s k) (b .valid) k (last k) (l .fields) (t .printed .count) (l .letter) h (t .met))

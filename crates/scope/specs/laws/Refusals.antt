@@ -8,15 +8,15 @@ use mathlib.Core.Logic.{_↔_, _≢_, _⊎_, inl, inr}
 use mathlib.Core.Option.{Option, none, some, Option·none-ne-some, Option·some-injective}
 use mathlib.Core.Path.{_≡_, refl, sym, ap, subst, subst₂, _∙_}
 use lib.Dec.{eqb}
-use lib.ListN.{length, drop, length-drop}
-use lib.Seq.{length-take-le}
+use lib.ListN.{length, drop}
 use borrow.Author.Tests.{eqb-true}
 use Rattle.scope.specs.Sheet.{Number, Sheet, Letter, H, N, A, O, R, W, Z, Line, mostSwitches, mostFaults, All}
 use Rattle.scope.specs.Reading.{upTo, at, zeros, Row, firstFault, rows, tests, started, accepted, refused, lineOf, lineSize, lengthOk, lineCount, bytesAt, lineAt, columnAt, testsAt, readFrom, read}
 use Rattle.scope.specs.Causes.{Column, stopped, wellFormed, Met, First, here, later, before, Passed, Cause, size, line, NoCause, SheetRefusal, wrongLength, malformed, wrongLetter, outOfRange, tooMany, wrongField, wrongCount}
 use Rattle.scope.specs.laws.Tests.{both, up-to}
+use Rattle.scope.specs.laws.Fields.{part-length}
 use Rattle.scope.specs.laws.Lines.{line-iff}
-use Rattle.scope.specs.laws.Beginnings.{stops-within, column-is, column-told}
+use Rattle.scope.specs.laws.Beginnings.{stops-within, column-is, column-found}
 
 -- ---- the first unmet test
 
@@ -84,11 +84,11 @@ module _ (n : ℕ) (s : List ℕ) where
   line-within k h = let i : suc k ≤ lineCount n s = omega arith in omega (arith, suc-mul k (lineSize n), mul-le-mul-right (lineSize n) i, div-add-mod' (length s) (lineSize n))
 
   whole-line : (k : ℕ) → k < lineCount n s → length (bytesAt n s k) ≡ lineSize n
-  whole-line k h = length-take-le (lineSize n) (drop (k * lineSize n) s) (omega (arith, line-within k h, length-drop (k * lineSize n) s))
+  whole-line k h = part-length s (k * lineSize n) (lineSize n) (line-within k h)
 
   pub column-of : (k : ℕ) → k < lineCount n s → Column n (bytesAt n s k) (columnAt n s k)
   unfolding columnAt
-  column-of k h = column-told n (bytesAt n s k) (omega (arith, whole-line k h))
+  column-of k h = column-found n (bytesAt n s k) (omega (arith, whole-line k h))
 
   -- one of the two is there
   data Told : Type 0 where

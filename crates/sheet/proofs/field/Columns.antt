@@ -10,14 +10,14 @@ use mathlib.Core.Logic.{_↔_, _≢_}
 use mathlib.Core.Option.{Option, none, some, Option·none-ne-some}
 use mathlib.Core.Path.{_≡_, refl, sym, ap, ap₂, _∙_}
 use lib.Dec.{eqb, leb, ltb}
-use lib.ListN.{length, getD, take, drop, length-append, length-take, length-drop, take-append-drop}
+use lib.ListN.{length, getD, take, drop, length-append, length-drop, take-append-drop, replicate-append-replicate}
 use lib.Seq.{take-suc, take-all, length-take-le, getD-take, getD-drop}
 use borrow.Author.Tests.{eqb-true, eqb-false, ne-eqb, lt-ltb, le-leb, leb-true}
 use Rattle.scope.specs.Sheet.{number, fieldSize, digit, decimal, signed, field, fits}
 use Rattle.scope.specs.Sheet as scope
 use Rattle.scope.specs.Reading.{full, formed, fieldOf}
 use Rattle.scope.specs.laws.Tests.{both, clash, same-some}
-use Rattle.scope.specs.laws.Fields.{by-digits, length-snoc, length-field, Fitting, fitting, field-iff}
+use Rattle.scope.specs.laws.Fields.{part-length, by-digits, length-snoc, length-field, Fitting, fitting, field-iff}
 use Rattle.scope.specs.laws.Digits.{spaces, zero-digit, columns-of, Shown, shown-field, Part, part-digit, shown-part, spaces-part, blank-part}
 use Rattle.scope.specs.laws.Beginnings.{fieldBegins, part-begins, field-begins, Stop}
 use Rattle.sheet.specs.declared.field.Scan.{Scan}
@@ -41,8 +41,7 @@ by true f g = f refl
 by false f g = g refl
 
 one-space-more : (k : ℕ) → spaces k ++ code " " ∷ [] ≡ spaces (suc k)
-one-space-more zero = refl
-one-space-more (suc k) = ap (λ s. code " " ∷ s) (one-space-more k)
+one-space-more k = replicate-append-replicate k 1 (code " ") ∙ ap spaces (add-one k)
 
 module _ (p : List ℕ) (b left : ℕ) where
   seen-digit : (m : Bool) (n : ℕ) → Part m n p → (code "0" ≤ b → 0 < n * 10 + (b - code "0")) → Seen (p ++ b ∷ []) left (withDigit m n b)
@@ -166,7 +165,7 @@ found-number Minus x e = absurd (Option·none-ne-some x e)
 found-number (Number m n) x e = cc
 found-number Bad x e = absurd (Option·none-ne-some x e)
 
-pub walk-iff : (s : List ℕ) (x : scope.Number) → length s ≡ fieldSize → (found (walk Blank s 0) ≡ some x) ↔ (fieldOf s ≡ some x)
+walk-iff : (s : List ℕ) (x : scope.Number) → length s ≡ fieldSize → (found (walk Blank s 0) ≡ some x) ↔ (fieldOf s ≡ some x)
 walk-iff s x l = (to, back)
   where
     to : found (walk Blank s 0) ≡ some x → fieldOf s ≡ some x
@@ -175,7 +174,7 @@ walk-iff s x l = (to, back)
     back : fieldOf s ≡ some x → found (walk Blank s 0) ≡ some x
     back e = let (w, f) = field-iff s x .0 e in ap found (ap (λ t. walk Blank t 0) w ∙ walk-field x f)
 
-pub walk-found : (s : List ℕ) → length s ≡ fieldSize → found (walk Blank s 0) ≡ fieldOf s
+walk-found : (s : List ℕ) → length s ≡ fieldSize → found (walk Blank s 0) ≡ fieldOf s
 walk-found s l = same-some (found (walk Blank s 0)) (fieldOf s) (λ x. walk-iff s x l .0) (λ x. walk-iff s x l .1)
 
 -- ---- where a walk goes bad
@@ -226,17 +225,14 @@ good-number t l g = go (walk Blank t 0) (seen t 0 (omega arith)) g
     go Bad h g = clash refl g
 
 -- columns that stop are no number's
-stop-none : (t : List ℕ) → length t ≡ fieldSize → (c : ℕ) → Stop fieldBegins t c → fieldOf t ≡ none
-stop-none t l c (p, q) = go (fieldOf t) refl
+stop-none : (t : List ℕ) (c : ℕ) → Stop fieldBegins t c → fieldOf t ≡ none
+stop-none t c (p, q) = go (fieldOf t) refl
   where
     go : (o : Option scope.Number) → fieldOf t ≡ o → o ≡ none
     go none e = refl
     go (some x) e = let (d, f) = field-iff t x .0 e in clash (field-begins x (take c t) (drop c t) f (sym d ∙ sym (take-append-drop c t))) q
 
 -- ---- from a place in a slice
-
-pub part-length : (s : List ℕ) (at n : ℕ) → at + n ≤ length s → length (take n (drop at s)) ≡ n
-part-length s at n h = omega (arith, length-take n (drop at s), length-drop at s)
 
 -- columns i of those from `at` are read, and st is what they hold
 pub record Reached (s : List ℕ) (at i : ℕ) (st : Scan) : Type 0 where
@@ -286,7 +282,7 @@ module _ (s : List ℕ) (at : ℕ) (l : at + fieldSize ≤ length s) where
       unfolding fieldFrom
       stopped g r c =
           let w : Stop fieldBegins t (i + 1) = stops g in
-          record { number = rw (c, ne-eqb (i + 1) 0 (λ z. omega arith)) (sym (stop-none t five (i + 1) w)); within = omega arith; stops = λ z. rw c w }
+          record { number = rw (c, ne-eqb (i + 1) 0 (λ z. omega arith)) (sym (stop-none t (i + 1) w)); within = omega arith; stops = λ z. rw c w }
 
   -- all five
   pub ended : (i : ℕ) (st : Scan) → Reached s at i st → fieldSize ≤ i → (r : Field) → (fieldFrom r ≡ found st) × (r .column ≤ fieldSize) → FieldRead t r

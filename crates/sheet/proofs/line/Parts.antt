@@ -16,6 +16,7 @@ use Rattle.scope.specs.Sheet.{plus, fieldSize}
 use Rattle.scope.specs.Sheet as scope
 use Rattle.scope.specs.Reading.{when, also, fieldOf, fieldsOf, letterOf, joined, lineOf, formed, columnOf, lineSize, at}
 use Rattle.scope.specs.laws.Beginnings.{some-formed, fieldBegins, fieldsBegin, Stop, field-stop, rest-stop, end-stop, letter-stop, after-letter, stop-column, column-is}
+use Rattle.scope.specs.laws.Fields.{part-length}
 use Rattle.scope.specs.laws.Lines.{line-iff}
 use Rattle.scope.specs.Causes.{wellFormed}
 use Rattle.sheet.specs.Columns.{numberFrom, fieldFrom, FieldRead}
@@ -25,7 +26,6 @@ use Rattle.sheet.specs.declared.field.Field.{Field}
 use Rattle.sheet.specs.declared.line.Letter.{Letter}
 use Rattle.sheet.specs.declared.line.Fields.{Fields}
 use borrow.Author.Tests.{eq-eqb, ne-eqb}
-use Rattle.sheet.proofs.field.Columns.{part-length}
 
 -- ---- parts of a slice
 
@@ -70,7 +70,7 @@ after xs none = none
 after xs (some ys) = some (xs ++ ys)
 
 -- the bytes of fields i to n - 1 of those from `at`, and the line feed
-abbrev pub bytes : List ℕ → ℕ → ℕ → ℕ → List ℕ
+abbrev bytes : List ℕ → ℕ → ℕ → ℕ → List ℕ
 bytes s at n i = take ((n - i) * fieldSize + 1) (drop (at + i * fieldSize) s)
 
 abbrev left : List ℕ → ℕ → ℕ → ℕ → Option (List scope.Number)
@@ -189,7 +189,7 @@ module _ (s : List ℕ) (at n i : ℕ) (xs : List Number) (h : Reached s at n i 
 
 -- ---- the line
 
-pub line-parts : (s : List ℕ) (at n : ℕ) → at + lineSize n ≤ length s → take (lineSize n) (drop at s) ≡ getD s at 0 ∷ take (n * fieldSize + 1) (drop (at + 1) s)
+line-parts : (s : List ℕ) (at n : ℕ) → at + lineSize n ≤ length s → take (lineSize n) (drop at s) ≡ getD s at 0 ∷ take (n * fieldSize + 1) (drop (at + 1) s)
 line-parts s at n l = let e : lineSize n ≡ suc (n * fieldSize + 1) = omega arith in rw (e, take-one (n * fieldSize + 1) at s (omega arith))
 
 -- a letter, and the fields t after it: o and xs, which stop in column c of theirs
