@@ -5,11 +5,15 @@ pub mod Pick
 pub mod Reading
 pub mod Causes
 pub mod Meaning
+pub mod Typed
+pub mod Texts
+pub mod Parsing
 pub mod Rule
 pub mod Jobs
 pub mod Demands
 pub mod Program
 pub mod Claims
 pub mod Examples
+pub mod TypedExamples
 -- proved of them
 pub mod laws
