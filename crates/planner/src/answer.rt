@@ -7,9 +7,11 @@ use crate::outcome::refused;
 use crate::rating::wide;
 use search::best::Best;
 use search::run::Run;
+use sheet::Tables;
 ghost use mathlib.Core.Path.{_≡_};
-ghost use Rattle.scope.specs.Jobs.{firstHigh};
+ghost use Rattle.scope.specs.Jobs.{answerOf, shortOf, firstHigh};
 ghost use Rattle.scope.specs.Jobs as jobs;
+ghost use Rattle.sheet.specs.Tables.{Sourced, AnySource};
 ghost use Rattle.planner.specs.Figures.{resultOf, answerFrom};
 ghost use Rattle.planner.specs.laws.Jobs.{highOf, runFigures};
 
@@ -25,11 +27,11 @@ fn run_outcome(run: Run) -> Outcome
     best_outcome(best, run.length)
 }
 
-// Answer, the full run: the list goes into `list`, and words after it keep their content.
-pub fn answer(s: &[u8], list: &mut [u32]) -> Outcome
-    ensures { λ r. ⌜ answerFrom r (now (list .exit)) ≡ jobs.answer (now (s .entry)) (now (list .entry)) ⌝ }
+// Answer, the full run, over what any reader gives: the list goes into `list`, and words after it keep their content.
+pub fn answer_tables(t: Tables, list: &mut [u32]) -> Outcome
+    requires { ⌜ Sourced t ⌝ }
+    ensures { λ o. ⌜ AnySource t (λ r. answerFrom o (now (list .exit)) ≡ answerOf r (now (list .entry))) ⌝ }
 {
-    let t = sheet::read(s);
     if t.number != 0 {
         return refused(t.number, t.place, t.column, 0);
     }
@@ -58,6 +60,13 @@ pub fn answer(s: &[u8], list: &mut [u32]) -> Outcome
     run_outcome(run)
 }
 
+// Answer for a sheet.
+pub fn answer(s: &[u8], list: &mut [u32]) -> Outcome
+    ensures { λ r. ⌜ answerFrom r (now (list .exit)) ≡ jobs.answer (now (s .entry)) (now (list .entry)) ⌝ }
+{
+    answer_tables(sheet::read(s), list)
+}
+
 // The position, from 1, of the first word that is not below the bound; 0 if all are.
 fn first_high(list: &[u32], bound: u32) -> usize
     ensures { λ r. ⌜ highOf r ≡ firstHigh bound 1 (now (list .entry)) ⌝ }
@@ -72,11 +81,11 @@ fn first_high(list: &[u32], bound: u32) -> usize
     0
 }
 
-// Short run: the best plan that passes the given patterns.
-pub fn short_run(s: &[u8], patterns: &[u32]) -> Outcome
-    ensures { λ r. ⌜ resultOf r ≡ jobs.shortRun (now (s .entry)) (now (patterns .entry)) ⌝ }
+// Short run, over what any reader gives: the best plan that passes the given patterns.
+pub fn short_run_tables(t: Tables, patterns: &[u32]) -> Outcome
+    requires { ⌜ Sourced t ⌝ }
+    ensures { λ o. ⌜ AnySource t (λ r. resultOf o ≡ shortOf r (now (patterns .entry))) ⌝ }
 {
-    let t = sheet::read(s);
     if t.number != 0 {
         return refused(t.number, t.place, t.column, 0);
     }
@@ -108,4 +117,11 @@ pub fn short_run(s: &[u8], patterns: &[u32]) -> Outcome
         Best::Nothing,
     );
     best_outcome(best, 0)
+}
+
+// Short run for a sheet.
+pub fn short_run(s: &[u8], patterns: &[u32]) -> Outcome
+    ensures { λ r. ⌜ resultOf r ≡ jobs.shortRun (now (s .entry)) (now (patterns .entry)) ⌝ }
+{
+    short_run_tables(sheet::read(s), patterns)
 }

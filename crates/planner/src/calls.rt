@@ -6,6 +6,8 @@ use crate::rating::rate;
 use circuit::Plan;
 ghost use mathlib.Core.List.{[], _∷_};
 ghost use mathlib.Core.Path.{_≡_};
+ghost use Rattle.scope.specs.Sheet.{fieldCount};
+ghost use Rattle.scope.specs.Reading.{read};
 ghost use Rattle.scope.specs.Program.{one};
 ghost use Rattle.scope.specs.Jobs as jobs;
 ghost use Rattle.scope.specs.Jobs.{answered};
@@ -85,7 +87,7 @@ pub extern "C" fn comzsered_rating(
 
 #[no_mangle]
 pub extern "C" fn comzsered_listing(sheet: &[u8], out: &mut [u8]) -> usize
-    ensures { λ r. ⌜ (now (out .exit) ≡ listingInto (now (sheet .entry)) (now (out .entry))) × (r ≡ listingLength (now (sheet .entry)) (now (out .entry))) ⌝ }
+    ensures { λ r. ⌜ (now (out .exit) ≡ listingInto (read fieldCount (now (sheet .entry))) (now (out .entry))) × (r ≡ listingLength (read fieldCount (now (sheet .entry))) (now (out .entry))) ⌝ }
 {
     print_listing(sheet, out)
 }

@@ -1,12 +1,16 @@
 // The program's listing.
-use crate::answer::answer;
+use crate::answer::answer_tables;
 use crate::outcome::Outcome;
 use crate::rating::wide;
 use listing::whole::MOST_BYTES;
 use listing::whole::put_listing;
+use sheet::Tables;
 ghost use mathlib.Core.Path.{_≡_};
 ghost use Prim.Native.Nat.{_<_};
+ghost use Rattle.scope.specs.Sheet.{fieldCount};
+ghost use Rattle.scope.specs.Reading.{read};
 ghost use Rattle.scope.specs.Program.{third};
+ghost use Rattle.sheet.specs.Tables.{Sourced, AnySource};
 ghost use Rattle.planner.specs.Figures.{resultOf};
 ghost use Rattle.planner.specs.laws.Listing.{listingInto, listingLength};
 
@@ -31,17 +35,17 @@ fn figure(r: Outcome) -> u32
     r.cost
 }
 
-// Puts what the program prints for a sheet at the beginning of `out`, and returns its length. A buffer
-// that is shorter than the longest listing is left as it was, and the length is 0.
-pub fn print_listing(s: &[u8], out: &mut [u8]) -> usize
-    ensures { λ r. ⌜ (now (out .exit) ≡ listingInto (now (s .entry)) (now (out .entry))) × (r ≡ listingLength (now (s .entry)) (now (out .entry))) ⌝ }
+// Puts what the program prints for what any reader gives at the beginning of `out`, and returns its length.
+// A buffer that is shorter than the longest listing is left as it was, and the length is 0.
+pub fn print_tables(t: Tables, out: &mut [u8]) -> usize
+    requires { ⌜ Sourced t ⌝ }
+    ensures { λ n. ⌜ AnySource t (λ r. (now (out .exit) ≡ listingInto r (now (out .entry))) × (n ≡ listingLength r (now (out .entry)))) ⌝ }
 {
     if out.len() < MOST_BYTES {
         return 0;
     }
     let mut list = [0u32; ROOM];
-    let r = answer(s, &mut list);
-    let t = sheet::read(s);
+    let r = answer_tables(t, &mut list);
     let first = t.first;
     let second = t.second;
     let third = t.third;
@@ -61,4 +65,11 @@ pub fn print_listing(s: &[u8], out: &mut [u8]) -> usize
         &third[..w],
         &list[..n],
     )
+}
+
+// The listing for a sheet.
+pub fn print_listing(s: &[u8], out: &mut [u8]) -> usize
+    ensures { λ r. ⌜ (now (out .exit) ≡ listingInto (read fieldCount (now (s .entry))) (now (out .entry))) × (r ≡ listingLength (read fieldCount (now (s .entry))) (now (out .entry))) ⌝ }
+{
+    print_tables(sheet::read(s), out)
 }

@@ -3,9 +3,11 @@ use crate::outcome::HIGH_PLAN;
 use circuit::Pattern;
 use circuit::Plan;
 use circuit::rule::Missed;
+use sheet::Tables;
 ghost use mathlib.Core.Path.{_≡_};
 ghost use Rattle.scope.specs.Jobs as jobs;
 ghost use Rattle.circuit.specs.Lent.{missedOf};
+ghost use Rattle.sheet.specs.Tables.{Sourced, AnySource};
 ghost use Rattle.planner.specs.Figures.{ratingOf};
 
 pub struct Rating {
@@ -63,10 +65,11 @@ pub fn wide(n: u32) -> usize
     n as usize
 }
 
-pub fn rate(s: &[u8], plan: Plan) -> Rating
-    ensures { λ r. ⌜ ratingOf r ≡ jobs.rating (now (s .entry)) (plan .0) ⌝ }
+// Rating, over what any reader gives.
+pub fn rate_tables(t: Tables, plan: Plan) -> Rating
+    requires { ⌜ Sourced t ⌝ }
+    ensures { λ o. ⌜ AnySource t (λ r. ratingOf o ≡ jobs.ratingOf r (plan .0)) ⌝ }
 {
-    let t = sheet::read(s);
     if t.number != 0 {
         return unrated(t.number, t.place, t.column);
     }
@@ -94,4 +97,11 @@ pub fn rate(s: &[u8], plan: Plan) -> Rating
         plan,
     );
     rated(cost, missed)
+}
+
+// Rating for a sheet.
+pub fn rate(s: &[u8], plan: Plan) -> Rating
+    ensures { λ r. ⌜ ratingOf r ≡ jobs.rating (now (s .entry)) (plan .0) ⌝ }
+{
+    rate_tables(sheet::read(s), plan)
 }

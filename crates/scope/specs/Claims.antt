@@ -4,13 +4,14 @@ use mathlib.Core.Bool.{true, false, cond}
 use mathlib.Core.List.{List, [], _∷_, _++_, List·Memᴰ, Perm}
 use mathlib.Core.Logic.{_↔_}
 use mathlib.Core.Option.{none, some}
-use mathlib.Core.Path.{_≡_}
+use mathlib.Core.Path.{_≡_, sym, ap, _∙_}
 use Rattle.scope.specs.Sheet.{Number, number, field, fits, Line, Clause, Gate, Sheet, sheet, sheetBytes, fieldCount, All, Valid}
-use Rattle.scope.specs.Reading.{fieldOf, lineOf, columnOf, accepted, refused, lineSize, read}
+use Rattle.scope.specs.Reading.{fieldOf, lineOf, columnOf, Read, accepted, refused, lineSize, read}
 use Rattle.scope.specs.Causes.{Printed, Begins, Cause, SheetRefusal}
+use Rattle.scope.specs.Source.{Source}
 use lib.ListN.{length, getD, take}
 use Rattle.scope.specs.Meaning.{plans, patterns, literalTrue, switchOn, kept, cost}
-use Rattle.scope.specs.Jobs.{task, answer, shortRun, rating}
+use Rattle.scope.specs.Jobs.{task, answerOf, shortOf, ratingOf}
 use Rattle.scope.specs.Demands.{list, Demand2, Demand3, ShortRun, Rates}
 use Rattle.scope.specs.Program.{outputRows}
 use Rattle.scope.specs.laws.Fields as fields
@@ -18,6 +19,7 @@ use Rattle.scope.specs.laws.Lines as lines
 use Rattle.scope.specs.laws.Beginnings as beginnings
 use Rattle.scope.specs.laws.Refusals as refusals
 use Rattle.scope.specs.laws.Inverse as inverse
+use Rattle.scope.specs.laws.Sources as sources
 use Rattle.scope.specs.laws.Wishes as wishes
 use Rattle.scope.specs.laws.Wishes.{costs}
 use Rattle.scope.specs.laws.Picks.{Before}
@@ -60,6 +62,10 @@ sheet-refused = refusals.refused-iff
 pub refusal-number : (n : ℕ) (s : List ℕ) {c place column : ℕ} → Cause n s c place column → SheetRefusal n c place column
 refusal-number = refusals.cause-number
 
+-- so what is read from a sheet is a source; a claim below that asks for no source holds of whatever was read
+pub sheet-source : (s : List ℕ) → Source (read fieldCount s)
+sheet-source = sources.sheet-source
+
 -- ---- plans
 
 -- a wish is kept exactly if one of its own literals is true
@@ -87,19 +93,23 @@ wishes-cost = wishes.cost-together
 pub order-free : (a f : ℕ) (gs : List Gate) (rs : List ℕ) (plan : ℕ) (ws us : List Clause) → Perm ws us → costs a f gs rs plan ws ≡ costs a f gs rs plan us
 order-free = wishes.cost-order
 
-pub rating-claim : (s : List ℕ) (p : ℕ) (t : Sheet) → read fieldCount s ≡ accepted t → p < plans t → Rates t p (rating s p)
+pub rating-claim : (r : Read) (p : ℕ) (t : Sheet) → r ≡ accepted t → p < plans t → Rates t p (ratingOf r p)
 rating-claim = demands.rating-right
 
 -- ---- demands 2 and 3
 
-pub demand2 : (s lent : List ℕ) (t : Sheet) → read fieldCount s ≡ accepted t → Demand2 t lent (answer s lent)
+pub demand2 : (r : Read) (lent : List ℕ) (t : Sheet) → r ≡ accepted t → Demand2 t lent (answerOf r lent)
 demand2 = demands.demand2
 
-pub demand3 : (s lent : List ℕ) → Demand3 s lent
+pub demand3 : (r : Read) (lent : List ℕ) → Demand3 r lent
 demand3 = demands.demand3
 
-pub short-claim : (s l : List ℕ) (t : Sheet) → read fieldCount s ≡ accepted t → ((i : ℕ) → i < length l → getD l i 0 < patterns t) → ShortRun t l (shortRun s l)
+pub short-claim : (r : Read) (l : List ℕ) (t : Sheet) → r ≡ accepted t → ((i : ℕ) → i < length l → getD l i 0 < patterns t) → ShortRun t l (shortOf r l)
 short-claim = demands.short-run
+
+-- two forms that are read as the same sheet have the same answers
+pub same-tables : (r q : Read) (t : Sheet) → r ≡ accepted t → q ≡ accepted t → ((lent : List ℕ) → answerOf r lent ≡ answerOf q lent) × ((l : List ℕ) → shortOf r l ≡ shortOf q l) × ((p : ℕ) → ratingOf r p ≡ ratingOf q p)
+same-tables r q t e f = let g : r ≡ q = e ∙ sym f in (λ lent. ap (λ o. answerOf o lent) g, λ l. ap (λ o. shortOf o l) g, λ p. ap (λ o. ratingOf o p) g)
 
 -- along a full run each candidate is strictly worse than the one before
 pub candidates-worse : (t : Sheet) (i j : ℕ) → i < j → j < length (list t) → Before (cost t) (lead (task t) (take i (list t))) (lead (task t) (take j (list t)))
@@ -108,5 +118,5 @@ candidates-worse t = rules.leads-worse (task t) (list t) (rules.settled (task t)
 -- ---- the program
 
 -- every figure that it prints fits its five columns
-pub output-fits : (s : List ℕ) → All (λ r. All (λ x. fits x ≡ true) (r .fields)) (outputRows s)
+pub output-fits : (r : Read) → Source r → All (λ r. All (λ x. fits x ≡ true) (r .fields)) (outputRows r)
 output-fits = outputs.output-fits

@@ -5,11 +5,11 @@ use mathlib.Core.List.{List, []}
 use mathlib.Core.Logic.{_↔_, _≢_}
 use mathlib.Core.Path.{_≡_}
 use lib.ListN.{length, getD, take}
-use Rattle.scope.specs.Sheet.{Sheet, fieldCount}
-use Rattle.scope.specs.Reading.{accepted, refused, read}
+use Rattle.scope.specs.Sheet.{Sheet}
+use Rattle.scope.specs.Reading.{Read, accepted, refused}
 use Rattle.scope.specs.Meaning.{plans, patterns, passes, cost}
 use Rattle.scope.specs.Rule.{whole}
-use Rattle.scope.specs.Jobs.{task, Result, refusal, found, Answer, over, answer, shortRun, Rating}
+use Rattle.scope.specs.Jobs.{task, Result, refusal, found, Answer, over, answerOf, shortOf, Rating}
 
 -- ---- plans
 
@@ -71,11 +71,12 @@ pub record Pair (t : Sheet) (lent : List ℕ) (r : Result) (l : List ℕ) (short
   -- after 9 it does so over all of them, and the pattern is the one that the rule lists next
   pub unfinished : r .number ≡ 9 → (length l < length (list t)) × Misses t (short l) (getD (list t) (length l) 0)
 
-pub record Demand3 (s lent : List ℕ) : Type 0 where
+-- r is what was read, from whatever form
+pub record Demand3 (r : Read) (lent : List ℕ) : Type 0 where
   -- the same verdict (with its place and column), plan and cost after a plan, "no plan" or a refused sheet
-  pub agrees : answer s lent .result .number ≢ 9 → Same (answer s lent .result) (shortRun s (listed (answer s lent)))
-  pub turned-down : (c place column : ℕ) → read fieldCount s ≡ refused c place column → (listed (answer s lent) ≡ []) × (answer s lent .list ≡ lent)
-  pub lists : (t : Sheet) → read fieldCount s ≡ accepted t → Pair t lent (answer s lent .result) (listed (answer s lent)) (shortRun s)
+  pub agrees : answerOf r lent .result .number ≢ 9 → Same (answerOf r lent .result) (shortOf r (listed (answerOf r lent)))
+  pub turned-down : (c place column : ℕ) → r ≡ refused c place column → (listed (answerOf r lent) ≡ []) × (answerOf r lent .list ≡ lent)
+  pub lists : (t : Sheet) → r ≡ accepted t → Pair t lent (answerOf r lent .result) (listed (answerOf r lent)) (shortOf r)
 
 -- ---- Short run: the best plan that passes the given patterns
 

@@ -132,10 +132,10 @@ table-holds = (refl, (refl, (refl, (refl, (refl, (refl, (refl, (refl, (refl, (re
 
 -- ---- the program, on the sample
 pub printed : output (lines sample) ≡ lines ("A    0    0    1" ∷ "S    1    0    0" ∷ "S    2    1    0" ∷ "W    1    1    0" ∷ "W    2    0    0" ∷ "F    1    0    0" ∷ "Z    6    0    0" ∷ [])
-unfolding output outputRows rowsBytes fieldsBytes each answer read readFrom testsAt lineAt lineOf letterOf fieldsOf fieldOf field decimal rows zeros make literals clause rule next best missed short pick passes truth truths bits cost kept broken keeps switchOn
+unfolding output outputRows rowsBytes fieldsBytes each read readFrom testsAt lineAt lineOf letterOf fieldsOf fieldOf field decimal rows zeros make literals clause rule next best missed short pick passes truth truths bits cost kept broken keeps switchOn
 printed = refl
 
 -- after 2 the third number of the A line is the column
 pub told : output (lines misprint) ≡ lines ("A    2    2    9" ∷ "Z    1    0    0" ∷ [])
-unfolding output outputRows rowsBytes fieldsBytes each answer read readFrom testsAt lineAt columnAt columnOf pick lineOf letterOf fieldsOf fieldOf field decimal rows zeros make literals clause
+unfolding output outputRows rowsBytes fieldsBytes each read readFrom testsAt lineAt columnAt columnOf pick lineOf letterOf fieldsOf fieldOf field decimal rows zeros make literals clause
 told = refl

@@ -4,6 +4,7 @@ pub mod Sheet
 pub mod Pick
 pub mod Reading
 pub mod Causes
+pub mod Source
 pub mod Meaning
 pub mod Typed
 pub mod Texts

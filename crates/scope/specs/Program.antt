@@ -8,7 +8,7 @@ use lib.ListN.{length, take, replicate}
 use Rattle.scope.specs.Sheet.{Clause, Sheet, Number, plus, fieldsBytes, fieldCount}
 use Rattle.scope.specs.Reading.{Read, accepted, refused, mostBytes, read}
 use Rattle.scope.specs.Meaning.{bits, kept}
-use Rattle.scope.specs.Jobs.{Result, Answer, answer}
+use Rattle.scope.specs.Jobs.{Result, Answer, answerOf}
 use Rattle.scope.specs.Demands.{listed}
 
 -- a line of the sheet's shape: a letter and three numbers
@@ -68,8 +68,9 @@ room = 4096
 abbrev pub inputOf : List ℕ → List ℕ
 inputOf input = take (suc (mostBytes fieldCount)) input
 
-unfoldable pub outputRows : List ℕ → List Row
-outputRows s = ended (answerRows (read fieldCount s) (answer s (replicate room 0)))
+-- for what was read, from whatever form
+unfoldable pub outputRows : Read → List Row
+outputRows r = ended (answerRows r (answerOf r (replicate room 0)))
 
 unfoldable pub output : List ℕ → List ℕ
-output input = rowsBytes (outputRows (inputOf input))
+output input = rowsBytes (outputRows (read fieldCount (inputOf input)))

@@ -7,6 +7,7 @@ pub mod Beginnings
 pub mod Refusals
 pub mod Steps
 pub mod Inverse
+pub mod Sources
 pub mod Points
 pub mod Wishes
 pub mod Picks

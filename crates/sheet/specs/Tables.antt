@@ -1,11 +1,13 @@
--- What `read` returns, word by word, for a sheet and for a refusal. Assumes nothing.
+-- What a reader returns, word by word, for a sheet and for a refusal. Assumes nothing.
 use Prim.Native.Nat.{ℕ, _+_, _-_, _*_}
 use Prim.Native.Char.{code}
 use mathlib.Core.Bool.{cond}
 use mathlib.Core.List.{List, _++_, map}
+use mathlib.Core.Path.{_≡_}
 use lib.ListN.{length, getD, replicate}
 use Rattle.scope.specs.Sheet.{Number, plus, Clause, Gate, Sheet, mostGates, mostRules, mostWishes}
 use Rattle.scope.specs.Reading.{started, Read, accepted, refused}
+use Rattle.scope.specs.Source.{Source}
 use Rattle.sheet.specs.declared.tables.Tables.{Tables}
 
 -- n words: f of each entry, then zeros
@@ -67,3 +69,13 @@ refusal n k c = tables n k c (started 0 0)
 abbrev pub outcome : Read → Tables
 outcome (accepted t) = filled t
 outcome (refused n k c) = refusal n k c
+
+-- the tables of some source
+pub record Sourced (u : Tables) : Type 0 where
+  pub told : Read
+  pub source : Source told
+  pub tables : u ≡ outcome told
+
+-- P of every source with these tables
+abbrev pub AnySource : Tables → (Read → Type 0) → Type 0
+AnySource u P = (r : Read) → Source r → u ≡ outcome r → P r

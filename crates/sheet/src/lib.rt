@@ -6,8 +6,11 @@ mod causes;
 mod field;
 mod line;
 mod reader;
-mod tables;
+pub mod tables;
 
 pub use causes::MALFORMED;
+pub use line::AND;
+pub use line::NOT;
+pub use line::OR;
 pub use reader::read;
 pub use tables::Tables;

@@ -1,4 +1,4 @@
--- The reader's tables, cut to their counts, are the columns of the sheet that was read. Assumes nothing.
+-- A reader's tables, cut to their counts, are the columns of the sheet that was read. Assumes nothing.
 use Prim.Native.Nat.{ℕ, _+_, _-_, _*_, _/_, _%_, _≤_}
 use native.Mathlib.Omega.{arith}
 use mathlib.Core.Bool.{Bool, true, false}
@@ -11,7 +11,7 @@ use Rattle.scope.specs.Sheet.{Number, number, Clause, Gate, Sheet, sheet, mostG
 use Rattle.scope.specs.Reading.{Read, accepted, refused, started}
 use Rattle.circuit.specs.Lent.{Columns, rows, gateOf, gatesOf, literalsOf, clauseOf, wishesOf, Gates, Clauses, circuit}
 use Rattle.sheet.specs.declared.tables.Tables.{Tables}
-use Rattle.sheet.specs.Tables.{padded, kindOf, leftOf, rightOf, pointOf, literalCode, literalAt, tables, outcome}
+use Rattle.sheet.specs.Tables.{padded, kindOf, leftOf, rightOf, pointOf, literalCode, literalAt, tables, outcome, Sourced}
 
 -- ---- what was coded is read again
 
@@ -171,8 +171,8 @@ tables-fronts number place column t = record {
   third = within-padded mostWishes (literalAt 2) (t .wishes);
 }
 
-pub fronts : (u : Tables) (o : Read) → u ≡ outcome o → Fronts u
-fronts u o e = rw e (go o)
+pub fronts : (u : Tables) → Sourced u → Fronts u
+fronts u h = rw (h .tables) (go (h .told))
   where
     go : (o : Read) → Fronts (outcome o)
     go (accepted t) = tables-fronts 0 0 0 t

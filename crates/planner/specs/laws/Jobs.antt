@@ -10,35 +10,37 @@ use mathlib.Core.Path.{_≡_, refl, sym, ap, ap₂, _∙_}
 use lib.ListN.{length, getD, take, drop, drop-of-length-le}
 use lib.Seq.{drop-cons, length-take-le}
 use borrow.Author.Tests.{lt-ltb, le-ltb}
-use Rattle.scope.specs.Sheet.{Sheet, sheet, fieldCount, All, Among, Valid}
-use Rattle.scope.specs.Reading.{accepted, read}
+use Rattle.scope.specs.Sheet.{Sheet, sheet, All, Among, Valid}
+use Rattle.scope.specs.Reading.{Read, accepted}
+use Rattle.scope.specs.Source.{Source}
 use Rattle.scope.specs.Meaning.{plans, patterns, switchOn, passes, truth, cost}
 use Rattle.scope.specs.Rule.{noRoom, verdictOf, Run, rule, missed, short, best}
-use Rattle.scope.specs.Jobs.{task, Result, refusal, found, result, answered, answerOf, answer, firstHigh, shortOf, shortRun, rated, unrated, rating}
-use Rattle.scope.specs.Jobs as jobs
-use Rattle.scope.specs.laws.Inverse.{read-iff}
+use Rattle.scope.specs.Jobs.{task, Result, refusal, found, result, answered, answerOf, firstHigh, shortOf, rated, unrated, ratingOf}
 use Rattle.circuit.specs.Lent.{Gates, Clauses, circuit, wishesOf, wishSheet}
 use Rattle.search.specs.declared.best.Best.{Best}
 use Rattle.search.specs.declared.best.Best.the-variants.{Nothing, At}
 use Rattle.search.specs.declared.run.Run as made
 use Rattle.search.specs.Table.{table, tableOf, Lent, bestOf, Priced, verdictFrom, Ran}
 use Rattle.sheet.specs.declared.tables.Tables.{Tables}
-use Rattle.sheet.specs.Tables.{outcome}
+use Rattle.sheet.specs.Tables.{outcome, Sourced}
 use Rattle.sheet.specs.laws.Outcomes.{accepted-of, refused-of}
 use Rattle.planner.specs.laws.Columns.{Cut, cut-accepted, gates-fit, rules-fit, wishes-fit, wishes-are, circuit-is}
 
 -- ---- the sheet that was read
 
-pub record Sheeted (s : List ℕ) (u : Tables) : Type 0 where
+pub record Sheeted (r : Read) (u : Tables) : Type 0 where
   pub sheet : Sheet
-  pub reads : read fieldCount s ≡ accepted sheet
+  pub reads : r ≡ accepted sheet
   pub valid : Valid sheet
   pub cut : Cut sheet u
 
-pub sheeted : (s : List ℕ) (u : Tables) → u ≡ outcome (read fieldCount s) → u .number ≡ 0 → Sheeted s u
-sheeted s u e z =
-    let (t, f) = accepted-of fieldCount s u e z in
-    record { sheet = t; reads = f; valid = read-iff fieldCount (omega arith) s t .0 f .1; cut = cut-accepted t u (read fieldCount s) e f }
+pub sheeted : (r : Read) → Source r → (u : Tables) → u ≡ outcome r → u .number ≡ 0 → Sheeted r u
+sheeted r h u e z =
+    let (t, f) = accepted-of r h u e z in
+    record { sheet = t; reads = f; valid = h .valid t f; cut = cut-accepted t u r e f }
+
+pub told-sheet : (u : Tables) (h : Sourced u) → u .number ≡ 0 → Sheeted (h .told) u
+told-sheet u h z = sheeted (h .told) (h .source) u (h .tables) z
 
 -- ---- a sheet's table of plans and patterns
 
@@ -48,7 +50,7 @@ table-task t = refl
 
 -- ---- what the columns of a sheet that was read mean; the code's counts are g, n and w
 
-module _ (s : List ℕ) (u : Tables) (h : Sheeted s u) (g n w : ℕ) (gates : g ≡ u .gates) (rules : n ≡ u .rules) (wishes : w ≡ u .wishes) where
+module _ {r : Read} (u : Tables) (h : Sheeted r u) (g n w : ℕ) (gates : g ≡ u .gates) (rules : n ≡ u .rules) (wishes : w ≡ u .wishes) where
   abbrev kinds : List ℕ
   kinds = take g (u .kind)
 
@@ -98,18 +100,15 @@ module _ (s : List ℕ) (u : Tables) (h : Sheeted s u) (g n w : ℕ) (gates : g 
 
 -- ---- refused sheets
 
-module _ (s : List ℕ) (u : Tables) (e : u ≡ outcome (read fieldCount s)) (z : u .number ≢ 0) where
-  pub answer-refused : (lent : List ℕ) → answer s lent ≡ record { result = refusal (u .number) (u .place) (u .column) 0; list = lent }
-  unfolding answer
-  answer-refused lent = ap (λ o. answerOf o lent) (refused-of fieldCount s u e z)
+module _ (r : Read) (h : Source r) (u : Tables) (e : u ≡ outcome r) (z : u .number ≢ 0) where
+  pub answer-refused : (lent : List ℕ) → answerOf r lent ≡ record { result = refusal (u .number) (u .place) (u .column) 0; list = lent }
+  answer-refused lent = ap (λ o. answerOf o lent) (refused-of r h u e z)
 
-  pub short-refused : (l : List ℕ) → shortRun s l ≡ refusal (u .number) (u .place) (u .column) 0
-  unfolding shortRun
-  short-refused l = ap (λ o. shortOf o l) (refused-of fieldCount s u e z)
+  pub short-refused : (l : List ℕ) → shortOf r l ≡ refusal (u .number) (u .place) (u .column) 0
+  short-refused l = ap (λ o. shortOf o l) (refused-of r h u e z)
 
-  pub rating-refused : (p : ℕ) → rating s p ≡ unrated (u .number) (u .place) (u .column)
-  unfolding rating
-  rating-refused p = ap (λ o. jobs.ratingOf o p) (refused-of fieldCount s u e z)
+  pub rating-refused : (p : ℕ) → ratingOf r p ≡ unrated (u .number) (u .place) (u .column)
+  rating-refused p = ap (λ o. ratingOf o p) (refused-of r h u e z)
 
 -- ---- a verdict's figures
 
@@ -124,22 +123,19 @@ best-figures t (At p c) l h = ap (λ m. found (p .0) m l) h
 
 -- ---- Rating
 
-module _ (s : List ℕ) (t : Sheet) (e : read fieldCount s ≡ accepted t) where
-  pub rating-high : (p : ℕ) → plans t ≤ p → rating s p ≡ unrated 10 0 0
-  unfolding rating
+module _ (r : Read) (t : Sheet) (e : r ≡ accepted t) where
+  pub rating-high : (p : ℕ) → plans t ≤ p → ratingOf r p ≡ unrated 10 0 0
   rating-high p h = rw (e, le-ltb p (plans t) h)
 
-  pub rating-low : (p : ℕ) → p < plans t → rating s p ≡ rated (cost t p) (missed (task t) p)
-  unfolding rating
+  pub rating-low : (p : ℕ) → p < plans t → ratingOf r p ≡ rated (cost t p) (missed (task t) p)
   rating-low p h = rw (e, lt-ltb p (plans t) h)
 
   -- ---- Short run
-  pub short-high : (l : List ℕ) (i : ℕ) → firstHigh (patterns t) 1 l ≡ some i → shortRun s l ≡ refusal 11 i 0 0
-  unfolding shortRun
+  pub short-high : (l : List ℕ) (i : ℕ) → firstHigh (patterns t) 1 l ≡ some i → shortOf r l ≡ refusal 11 i 0 0
   short-high l i h = rw (e, h)
 
-  pub short-low : (l : List ℕ) (b : Best) → firstHigh (patterns t) 1 l ≡ none → bestOf b ≡ best (task t) l → Priced (task t) b → shortRun s l ≡ bestFigures b 0
-  unfolding shortRun short
+  pub short-low : (l : List ℕ) (b : Best) → firstHigh (patterns t) 1 l ≡ none → bestOf b ≡ best (task t) l → Priced (task t) b → shortOf r l ≡ bestFigures b 0
+  unfolding short
   short-low l b h f g = rw (e, h, ← f) (sym (best-figures t b 0 g))
 
 -- the first pattern that is too high, from position i on
@@ -183,8 +179,7 @@ run-figures t r h = go (r .full)
     go true = refl
     go false = best-figures t (r .best) (r .length) h
 
-pub answer-run : (s lent after : List ℕ) (t : Sheet) (r : made.Run) → read fieldCount s ≡ accepted t → length after ≡ length lent → Ran (task t) lent r after → answered (runFigures r) after ≡ answer s lent
-unfolding answer
-answer-run s lent after t r e n h =
-    let k : length (take (r .length) after) ≡ r .length = length-take-le (r .length) after (omega (arith, h .fits)) in
-    rw (e, h .ruled, k) (ap₂ answered (run-figures t r (h .priced)) (rw k at (h .list)))
+pub answer-run : (r : Read) (lent after : List ℕ) (t : Sheet) (m : made.Run) → r ≡ accepted t → length after ≡ length lent → Ran (task t) lent m after → answered (runFigures m) after ≡ answerOf r lent
+answer-run r lent after t m e n h =
+    let k : length (take (m .length) after) ≡ m .length = length-take-le (m .length) after (omega (arith, h .fits)) in
+    rw (e, h .ruled, k) (ap₂ answered (run-figures t m (h .priced)) (rw k at (h .list)))

@@ -10,11 +10,11 @@ use mathlib.Core.Path.{_≡_, refl, sym, ap, subst, _∙_}
 use lib.ListN.{length, getD, take, drop}
 use lib.Seq.{take-append-seam, take-all, length-take-le, getD-take}
 use borrow.Author.Tests.{lt-ltb, not-true, not-false}
-use Rattle.scope.specs.Sheet.{Sheet, fieldCount}
-use Rattle.scope.specs.Reading.{Read, accepted, refused, read}
+use Rattle.scope.specs.Sheet.{Sheet}
+use Rattle.scope.specs.Reading.{Read, accepted, refused}
 use Rattle.scope.specs.Meaning.{plans, patterns, passes, cost}
 use Rattle.scope.specs.Rule.{Verdict, plan, noPlan, noRoom, Run, run, verdictOf, passesAll, best, missed, short, rule, whole}
-use Rattle.scope.specs.Jobs.{task, Result, refusal, found, result, Answer, answered, over, answerOf, answer, firstHigh, shortOf, shortRun, rated, rating}
+use Rattle.scope.specs.Jobs.{task, Result, refusal, found, result, Answer, answered, over, answerOf, firstHigh, shortOf, rated, ratingOf}
 use Rattle.scope.specs.Demands.{Sound, Passes, Best, list, Demand2, Same, listed, Misses, Pair, Demand3, ShortRun, Rates}
 use Rattle.scope.specs.laws.Tests.{clash}
 use Rattle.scope.specs.laws.Rules.{passes-at, passes-all, Candidate, best-iff, Missed, missed-iff, Ruled, ruled-take, settled, words-apart, words-below, length-patterns, length-plans, room, no-room, verdict-short, verdict-iff, Answers, Beginning, beginning}
@@ -177,16 +177,15 @@ module _ (lent : List ℕ) where
   )
   listed-of (refused c place column) most = (omega arith, λ i h. absurd (omega arith))
 
--- ---- demand 3, over every sheet and every lent list
+-- ---- demand 3, over every reading and every lent list
 
 agrees-of : (r : Read) (lent : List ℕ) → answerOf r lent .result .number ≢ 9 → Same (answerOf r lent .result) (shortOf r (listed (answerOf r lent)))
 agrees-of (accepted t) lent n = agrees t lent n
 agrees-of (refused c place column) lent n = record { number = refl; place = refl; column = refl; plan = refl; cost = refl }
 
-pub demand3 : (s lent : List ℕ) → Demand3 s lent
-unfolding answer shortRun
-demand3 s lent = record {
-  agrees = agrees-of (read fieldCount s) lent;
+pub demand3 : (r : Read) (lent : List ℕ) → Demand3 r lent
+demand3 r lent = record {
+  agrees = agrees-of r lent;
   turned-down = λ c place column e. rw e (refl, refl);
   lists = λ t e. subst (λ r. Pair t lent (answerOf r lent .result) (listed (answerOf r lent)) (shortOf r)) (sym e) (pair t lent);
 }
@@ -224,9 +223,8 @@ crowded t lent h = record {
   words = refl;
 }
 
-pub demand2 : (s lent : List ℕ) (t : Sheet) → read fieldCount s ≡ accepted t → Demand2 t lent (answer s lent)
-unfolding answer
-demand2 s lent t e = rw e (go (decLe (length (list t)) (length lent)))
+pub demand2 : (r : Read) (lent : List ℕ) (t : Sheet) → r ≡ accepted t → Demand2 t lent (answerOf r lent)
+demand2 r lent t e = rw e (go (decLe (length (list t)) (length lent)))
   where
     go : Dec (length (list t) ≤ length lent) → Demand2 t lent (answerOf (accepted t) lent)
     go (yes h) = rw (room (task t) (length lent) h) (enough t lent h)
@@ -261,9 +259,9 @@ module _ (t : Sheet) (l : List ℕ) where
     no-plan = (λ f. absurd (omega (arith, same-of f .number)), λ n. absurd (n q (best-passes q .0 (best-iff (task t) l (some q) .0 e) .is-ok)));
   }
 
-pub short-run : (s l : List ℕ) (t : Sheet) → read fieldCount s ≡ accepted t → ((i : ℕ) → i < length l → getD l i 0 < patterns t) → ShortRun t l (shortRun s l)
-unfolding shortRun short
-short-run s l t e h = rw (e, none-high (patterns t) 1 l h) (short-right t l (best (task t) l) refl)
+pub short-run : (r : Read) (l : List ℕ) (t : Sheet) → r ≡ accepted t → ((i : ℕ) → i < length l → getD l i 0 < patterns t) → ShortRun t l (shortOf r l)
+unfolding short
+short-run r l t e h = rw (e, none-high (patterns t) 1 l h) (short-right t l (best (task t) l) refl)
 
 -- ---- Rating
 
@@ -291,6 +289,5 @@ rates t p h (some q) e =
       zero = λ f. clash f refl;
     }
 
-pub rating-right : (s : List ℕ) (p : ℕ) (t : Sheet) → read fieldCount s ≡ accepted t → p < plans t → Rates t p (rating s p)
-unfolding rating
-rating-right s p t e h = rw (e, lt-ltb p (plans t) h) (rates t p h (missed (task t) p) refl)
+pub rating-right : (r : Read) (p : ℕ) (t : Sheet) → r ≡ accepted t → p < plans t → Rates t p (ratingOf r p)
+rating-right r p t e h = rw (e, lt-ltb p (plans t) h) (rates t p h (missed (task t) p) refl)

@@ -1,26 +1,23 @@
 -- Every figure that the program prints fits its five columns. Assumes nothing.
-use Prim.Native.Nat.{ℕ, suc, _+_, _%_, _≤_, _<_}
+use Prim.Native.Nat.{ℕ, suc, _+_, _≤_, _<_}
 use Prim.Native.Char.{Char}
 use native.Mathlib.Nat.{pow-le-pow-right}
 use native.Mathlib.Omega.{arith}
-use mathlib.Core.Bool.{Bool, true, false, cond, _&&_}
+use mathlib.Core.Bool.{Bool, true, false, cond}
 use mathlib.Core.List.{List, [], _∷_, _++_}
 use mathlib.Core.Path.{_≡_, refl, ap}
-use lib.Dec.{eqb, leb, ltb}
+use lib.Dec.{eqb}
 use lib.ListN.{length, getD, replicate, length-append}
-use borrow.Author.Tests.{leb-true}
-use Rattle.scope.specs.Sheet.{Sheet, fieldCount, mostSwitches, mostWishes, All, Valid}
-use Rattle.scope.specs.Reading.{Read, accepted, refused, lineSize, mostBytes, lengthOk, lineCount, read}
-use Rattle.scope.specs.Causes.{Cause, size, line}
+use Rattle.scope.specs.Sheet.{Sheet, mostSwitches, mostWishes, All, Valid}
+use Rattle.scope.specs.Reading.{Read, accepted, refused}
+use Rattle.scope.specs.Source.{Refusal, Source}
 use Rattle.scope.specs.Meaning.{bits, patterns, kept}
 use Rattle.scope.specs.Rule.{Verdict, plan, noPlan, noRoom, rule}
-use Rattle.scope.specs.Jobs.{task, Result, result, Answer, answerOf, answer}
+use Rattle.scope.specs.Jobs.{task, Result, result, Answer, answerOf}
 use Rattle.scope.specs.Demands.{listed}
 use Rattle.scope.specs.Program.{Row, row, one, each, third, switchRow, wishRow, patternRow, planRows, foundRows, answerRows, ended, room, outputRows}
-use Rattle.scope.specs.laws.Tests.{both}
 use Rattle.scope.specs.laws.Lines.{Fit}
-use Rattle.scope.specs.laws.Refusals.{refused-iff, cause-number, figures-within}
-use Rattle.scope.specs.laws.Inverse.{read-iff, plus-fits, all-append}
+use Rattle.scope.specs.laws.Inverse.{plus-fits, all-append}
 use Rattle.scope.specs.laws.Points.{length-bits}
 use Rattle.scope.specs.laws.Wishes.{cost-small}
 use Rattle.scope.specs.laws.Rules.{words-below, length-patterns}
@@ -117,35 +114,20 @@ module _ (t : Sheet) (v : Valid t) where
       )
       (row-fits "Z" (length (row "A" (r .number) (r .place) (third r) ∷ found ++ words)) 0 0 count (omega arith) (omega arith), tt)
 
--- ---- a refused one
-
-few-lines : (s : List ℕ) → lengthOk fieldCount (length s) ≡ true → lineCount fieldCount s ≤ 530
-few-lines s e =
-    let (a, r) = both (ltb 0 (length s)) (leb (length s) (mostBytes fieldCount) && eqb (length s % lineSize fieldCount) 0) e in
-    let (b, d) = both (leb (length s) (mostBytes fieldCount)) (eqb (length s % lineSize fieldCount) 0) r in
-    omega (arith, leb-true (length s) (mostBytes fieldCount) b)
-
-cause-small : (s : List ℕ) {c place column : ℕ} → Cause fieldCount s c place column → place ≤ 530
-cause-small s (size h) = omega arith
-cause-small s (line k h l p f w) = omega (arith, few-lines s h)
+-- ---- any source
 
 choice : (b : Bool) {x : ℕ} → x ≤ top → cond b x 0 ≤ top
 choice true h = h
 choice false h = omega arith
 
-pub output-fits : (s : List ℕ) → All Fits (outputRows s)
-unfolding outputRows answer each
-output-fits s = go (read fieldCount s) refl
-  where
-    go : (o : Read) → read fieldCount s ≡ o → All Fits (ended (answerRows o (answerOf o (replicate room 0))))
-    go (accepted t) e = answer-fits t (read-iff fieldCount (omega arith) s t .0 e .1) (replicate room 0)
-    go (refused c place column) e =
-        let h : Cause fieldCount s c place column = refused-iff fieldCount s c place column .0 e in
-        let (low, high, within) = figures-within (cause-number fieldCount s h) in
-        (row-fits "A" c place (cond (eqb c 2) column 0) (omega arith) (omega (arith, cause-small s h)) (choice (eqb c 2) (omega arith)), (row-fits "Z" 1 0 0 (omega arith) (omega arith) (omega arith), tt))
+pub output-fits : (r : Read) → Source r → All Fits (outputRows r)
+unfolding outputRows each
+output-fits (accepted t) h = answer-fits t (h .valid t refl) (replicate room 0)
+output-fits (refused c place column) h =
+    let f : Refusal c place column = h .refusal c place column refl in
+    (row-fits "A" c place (cond (eqb c 2) column 0) (f .number) (f .place) (choice (eqb c 2) (f .column)), (row-fits "Z" 1 0 0 (omega arith) (omega arith) (omega arith), tt))
 
 -- ---- what Answer lists, whatever it is lent: no more than that, and patterns that fit a field
 
-pub listed-small : (s lent : List ℕ) → (answer s lent .result .length ≤ length lent) × ((i : ℕ) → i < length (listed (answer s lent)) → getD (listed (answer s lent)) i 0 < 65536)
-unfolding answer
-listed-small s lent = listed-of lent (read fieldCount s) (λ t e. most-patterns t (read-iff fieldCount (omega arith) s t .0 e .1))
+pub listed-small : (r : Read) → Source r → (lent : List ℕ) → (answerOf r lent .result .length ≤ length lent) × ((i : ℕ) → i < length (listed (answerOf r lent)) → getD (listed (answerOf r lent)) i 0 < 65536)
+listed-small r h lent = listed-of lent r (λ t e. most-patterns t (h .valid t e))

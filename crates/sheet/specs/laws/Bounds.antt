@@ -1,19 +1,18 @@
--- An accepted sheet is within the limits. Assumes nothing.
+-- A valid sheet, and what the lines so far say, is within the limits. Assumes nothing.
 use Prim.Native.Nat.{ℕ, zero, suc, _≤_, _<_}
 use native.Mathlib.Omega.{arith}
 use mathlib.Core.Bool.{Bool, true, not}
 use mathlib.Core.List.{List, [], _∷_, _++_}
 use mathlib.Core.Option.{Option, none, some}
-use mathlib.Core.Path.{_≡_, sym, subst}
+use mathlib.Core.Path.{_≡_}
 use lib.Dec.{leb}
 use lib.ListN.{length}
 use borrow.Author.Tests.{leb-true, ltb-true}
-use Rattle.scope.specs.Sheet.{Number, Sheet, Letter, H, N, A, O, R, W, Z, Line, mostSwitches, mostFaults, mostGates, mostRules, mostWishes}
-use Rattle.scope.specs.Reading.{upTo, at, rows, tests, started, make, add, accepted, lineCount, lineAt, testsAt, read}
+use Rattle.scope.specs.Sheet.{Number, Sheet, Letter, H, N, A, O, R, W, Z, Line, mostSwitches, mostFaults, mostGates, mostRules, mostWishes, Valid}
+use Rattle.scope.specs.Reading.{upTo, at, rows, tests, started, make, add, lineAt, testsAt}
 use Rattle.scope.specs.Causes.{Met, before, Passed}
 use Rattle.scope.specs.laws.Tests.{both}
 use Rattle.scope.specs.laws.Fields.{length-snoc}
-use Rattle.scope.specs.laws.Refusals.{accepted-iff}
 
 pub record Bounds (t : Sheet) : Type 0 where
   pub switches : t .switches ≤ mostSwitches
@@ -24,6 +23,9 @@ pub record Bounds (t : Sheet) : Type 0 where
 
 pub started-bounds : Bounds (started 0 0)
 started-bounds = record { switches = omega arith; faults = omega arith; gates = omega arith; rules = omega arith; wishes = omega arith }
+
+pub valid-bounds : (t : Sheet) → Valid t → Bounds t
+valid-bounds t v = record { switches = v .switches; faults = v .faults; gates = v .few-gates; rules = v .few-rules; wishes = v .few-wishes }
 
 up-to-size : (m : ℕ) (x : Number) → upTo m x ≡ true → x .size ≤ m
 up-to-size m x e = leb-true (x .size) m (both (not (x .minus)) (leb (x .size) m) e .1)
@@ -53,6 +55,3 @@ module _ (n : ℕ) (s : List ℕ) where
   unfolding before testsAt
   before-bounds zero p = started-bounds
   before-bounds (suc k) p = add-bounds (before n s k) k _ (before-bounds k (λ j h. p j (omega arith))) (lineAt n s k) (p k (omega arith))
-
-  pub accepted-bounds : (t : Sheet) → read n s ≡ accepted t → Bounds t
-  accepted-bounds t e = let (c, g) = accepted-iff n s t .0 e in subst Bounds (sym g) (before-bounds (lineCount n s) (c .lines))
