@@ -1,0 +1,42 @@
+-- What the steps over words and numbers give: in no promise of an exported call. Assumes nothing.
+use Prim.Native.Nat.{ℕ, _+_, _-_, _≤_, _<_}
+use mathlib.Core.Bool.{Bool, true, false}
+use mathlib.Core.List.{List, [], _∷_}
+use mathlib.Core.Path.{_≡_}
+use lib.ListN.{length, drop}
+use Rattle.scope.specs.Typed.{mostNumber}
+use Rattle.scope.specs.Parsing.{Slot, State, Outcome, stuck, word, digits, zeroOk, numberDone, walk}
+use Rattle.text.specs.declared.words.Word.{Word}
+
+-- from place `at` no legal text goes on at place n
+pub record Stuck (s : List ℕ) (st : State) (at n : ℕ) : Type 0 where
+  pub within : n ≤ length s
+  pub walk : walk st (drop at s) ≡ stuck (length s - n)
+
+-- the walk comes from one place to a later one
+pub record Came (s : List ℕ) (st : State) (at : ℕ) (to : State) (n : ℕ) : Type 0 where
+  pub ahead : at < n
+  pub within : n ≤ length s
+  pub walk : walk st (drop at s) ≡ walk to (drop n s)
+
+-- what is left of a word, and then st
+abbrev pub rest : List ℕ → State → State
+rest [] st = st
+rest (c ∷ s) st = word (c ∷ s) st
+
+-- the first i bytes of w stand from `at` on
+pub record Partly (s w : List ℕ) (at i : ℕ) : Type 0 where
+  pub part : i ≤ length w
+  pub within : at + i ≤ length s
+  pub walk : (st : State) → walk (word w st) (drop at s) ≡ walk (rest (drop i w) st) (drop (at + i) s)
+
+-- the bytes w from `at` on
+pub record WordRead (s w : List ℕ) (at : ℕ) (r : Word) : Type 0 where
+  pub good : r .bad ≡ false → (st : State) → Came s (word w st) at st (r .at)
+  pub bad : r .bad ≡ true → (st : State) → Stuck s (word w st) at (r .at)
+
+-- a number from `at` on, which may be 0 or not
+pub record NumberRead (s : List ℕ) (zero : Bool) (at : ℕ) (r : Word) : Type 0 where
+  pub good : r .bad ≡ false → (slot : Slot) → zeroOk slot ≡ zero → Came s (digits slot) at (numberDone slot (r .value)) (r .at)
+  pub few : r .value ≤ mostNumber
+  pub bad : r .bad ≡ true → (slot : Slot) → zeroOk slot ≡ zero → Stuck s (digits slot) at (r .at)

@@ -1,0 +1,260 @@
+// A formula: factors joined by `&`, these joined by `|`, both from the left. Each operator's gate goes into the lent columns when its
+// operands are complete, as long as there is room; all are counted.
+ghost use mathlib.Core.Bool.{_&&_};
+ghost use mathlib.Core.Logic.{_≢_};
+ghost use mathlib.Core.Path.{_≡_};
+ghost use Prim.Native.Nat.{_≤_, _<_};
+ghost use Rattle.scope.specs.Typed.{mostText, mostNumber};
+ghost use Rattle.text.specs.Look as place;
+ghost use Rattle.text.specs.Formulas.{Asked, AtomRead, FactorRead, AndsRead, OrsRead, Ends, Gated, notSign, openSign, andSign, orSign, goesOn, operandAt, badAt, closedOf};
+use crate::reader::look;
+use crate::reader::skip;
+use crate::words::number_at;
+use sheet::tables;
+use sheet::tables::Counts;
+use sheet::tables::MOST_GATES;
+
+const SWITCH: u32 = b's' as u32;
+
+const FAULT: u32 = b'f' as u32;
+
+const BANG: u32 = b'!' as u32;
+
+const AMP: u32 = b'&' as u32;
+
+const BAR: u32 = b'|' as u32;
+
+const OPEN: u32 = b'(' as u32;
+
+const CLOSE: u32 = b')' as u32;
+
+const FULL: u32 = MOST_GATES as u32;
+
+// What was read of a formula; or, if it is bad, the place where no legal text goes on.
+pub struct Parsed {
+    pub bad: bool,
+    // the place after it
+    pub at: usize,
+    pub point: u32,
+    // how many gates there are with its own
+    pub gates: u32,
+    // whether every number so far is on the sheet
+    pub known: bool,
+}
+
+// The numbers of switches and faults.
+pub struct Points {
+    pub switches: u32,
+    pub faults: u32,
+}
+
+fn stuck(at: usize) -> Parsed
+    ensures { λ r. ⌜ r ≡ badAt at ⌝ }
+{
+    Parsed {
+        bad: true,
+        at,
+        point: 0,
+        gates: 0,
+        known: false,
+    }
+}
+
+fn both(a: bool, b: bool) -> bool
+    ensures { λ r. ⌜ r ≡ (a && b) ⌝ }
+{
+    if a {
+        return b;
+    }
+    false
+}
+
+// A switch or a fault.
+fn atom(s: &[u8], at: usize, c: Points, gates: u32, known: bool) -> Parsed
+    requires { ⌜ Asked (now s) (c .switches) (c .faults) gates at × (place.look (now s) at ≢ notSign) × (place.look (now s) at ≢ openSign) ⌝ }
+    ensures { λ r. ⌜ AtomRead (now (s .entry)) (c .switches) (c .faults) gates known at r ⌝ }
+{
+    let b = look(s, at);
+    if b == SWITCH {
+        let n = number_at(s, at + 1, false);
+        return Parsed {
+            bad: n.bad,
+            at: n.at,
+            point: n.value,
+            gates,
+            known: both(known, n.value <= c.switches),
+        };
+    }
+    if b == FAULT {
+        let n = number_at(s, at + 1, false);
+        return Parsed {
+            bad: n.bad,
+            at: n.at,
+            point: c.switches + n.value,
+            gates,
+            known: both(known, n.value <= c.faults),
+        };
+    }
+    stuck(at)
+}
+
+// With one more gate, at the point after all others.
+fn with_gate(
+    p: Parsed,
+    letter: u8,
+    l: u32,
+    m: u32,
+    c: Points,
+    kind: &mut [u8; MOST_GATES],
+    left: &mut [u32; MOST_GATES],
+    right: &mut [u32; MOST_GATES],
+) -> Parsed
+    requires { ⌜ (c .switches ≤ mostNumber) × (c .faults ≤ mostNumber) × (p .gates ≤ mostText) ⌝ }
+    ensures { λ r. ⌜ Gated (c .switches) (c .faults) letter l m p r (now (kind .entry)) (now (left .entry)) (now (right .entry)) (now (kind .exit)) (now (left .exit)) (now (right .exit)) ⌝ }
+{
+    if p.bad {
+        return p;
+    }
+    let n = p.gates;
+    let r = Parsed {
+        bad: false,
+        at: p.at,
+        point: c.switches + c.faults + (n + 1),
+        gates: n + 1,
+        known: p.known,
+    };
+    if FULL <= n {
+        return r;
+    }
+    let counts = Counts {
+        switches: 0,
+        faults: 0,
+        gates: n,
+        rules: 0,
+        wishes: 0,
+    };
+    tables::put_gate(kind, left, right, counts, letter, l, m);
+    r
+}
+
+// Whether a sign comes next.
+fn goes_on(s: &[u8], p: Parsed, sign: u32) -> bool
+    ensures { λ r. ⌜ r ≡ goesOn (now (s .entry)) p sign ⌝ }
+{
+    if p.bad {
+        return false;
+    }
+    let at = p.at;
+    look(s, skip(s, at)) == sign
+}
+
+// The place of the operand after the sign that comes next.
+fn operand_at(s: &[u8], at: usize) -> usize
+    requires { ⌜ place.look (now s) (place.skip (now s) at) < place.end ⌝ }
+    ensures { λ r. ⌜ r ≡ operandAt (now (s .entry)) at ⌝ }
+{
+    skip(s, skip(s, at) + 1)
+}
+
+fn closed(s: &[u8], p: Parsed) -> Parsed
+    ensures { λ r. ⌜ r ≡ closedOf (now (s .entry)) p ⌝ }
+{
+    if p.bad {
+        return p;
+    }
+    let at = p.at;
+    let end = skip(s, at);
+    if look(s, end) == CLOSE {
+        return Parsed {
+            bad: p.bad,
+            at: end + 1,
+            point: p.point,
+            gates: p.gates,
+            known: p.known,
+        };
+    }
+    stuck(end)
+}
+
+// Nots and brackets together are at most `depth` deep.
+fn factor(
+    s: &[u8],
+    at: usize,
+    depth: u32,
+    c: Points,
+    gates: u32,
+    known: bool,
+    kind: &mut [u8; MOST_GATES],
+    left: &mut [u32; MOST_GATES],
+    right: &mut [u32; MOST_GATES],
+) -> Parsed
+    requires { ⌜ Asked (now s) (c .switches) (c .faults) gates at ⌝ }
+    ensures { λ r. ⌜ FactorRead (now (s .entry)) depth (c .switches) (c .faults) gates known at r (now (kind .entry)) (now (left .entry)) (now (right .entry)) (now (kind .exit)) (now (left .exit)) (now (right .exit)) ⌝ }
+{
+    let b = look(s, at);
+    if b == BANG {
+        if depth == 0 {
+            return stuck(at);
+        }
+        let from = skip(s, at + 1);
+        let p = factor(s, from, depth - 1, c, gates, known, kind, left, right);
+        return with_gate(p, sheet::NOT, p.point, 0, c, kind, left, right);
+    }
+    if b == OPEN {
+        if depth == 0 {
+            return stuck(at);
+        }
+        let from = skip(s, at + 1);
+        let p = or_level(s, from, depth - 1, c, gates, known, kind, left, right);
+        return closed(s, p);
+    }
+    atom(s, at, c, gates, known)
+}
+
+// Factors joined by `&`.
+fn and_level(
+    s: &[u8],
+    at: usize,
+    depth: u32,
+    c: Points,
+    gates: u32,
+    known: bool,
+    kind: &mut [u8; MOST_GATES],
+    left: &mut [u32; MOST_GATES],
+    right: &mut [u32; MOST_GATES],
+) -> Parsed
+    requires { ⌜ Asked (now s) (c .switches) (c .faults) gates at ⌝ }
+    ensures { λ r. ⌜ AndsRead (now (s .entry)) depth (c .switches) (c .faults) gates known at r (now (kind .entry)) (now (left .entry)) (now (right .entry)) (now (kind .exit)) (now (left .exit)) (now (right .exit)) × Ends (now (s .entry)) r andSign ⌝ }
+{
+    let mut p = factor(s, at, depth, c, gates, known, kind, left, right);
+    while goes_on(s, p, AMP) {
+        let from = operand_at(s, p.at);
+        let q = factor(s, from, depth, c, p.gates, p.known, kind, left, right);
+        p = with_gate(q, sheet::AND, p.point, q.point, c, kind, left, right);
+    }
+    p
+}
+
+// These joined by `|`: a formula.
+pub fn or_level(
+    s: &[u8],
+    at: usize,
+    depth: u32,
+    c: Points,
+    gates: u32,
+    known: bool,
+    kind: &mut [u8; MOST_GATES],
+    left: &mut [u32; MOST_GATES],
+    right: &mut [u32; MOST_GATES],
+) -> Parsed
+    requires { ⌜ Asked (now s) (c .switches) (c .faults) gates at ⌝ }
+    ensures { λ r. ⌜ OrsRead (now (s .entry)) depth (c .switches) (c .faults) gates known at r (now (kind .entry)) (now (left .entry)) (now (right .entry)) (now (kind .exit)) (now (left .exit)) (now (right .exit)) × Ends (now (s .entry)) r andSign × Ends (now (s .entry)) r orSign ⌝ }
+{
+    let mut p = and_level(s, at, depth, c, gates, known, kind, left, right);
+    while goes_on(s, p, BAR) {
+        let from = operand_at(s, p.at);
+        let q = and_level(s, from, depth, c, p.gates, p.known, kind, left, right);
+        p = with_gate(q, sheet::OR, p.point, q.point, c, kind, left, right);
+    }
+    p
+}
