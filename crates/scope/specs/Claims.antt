@@ -1,16 +1,17 @@
 -- What is claimed of the definitions, each claim with its proof. Assumes nothing.
 use Prim.Native.Nat.{ℕ, _+_, _-_, _≤_, _<_}
 use mathlib.Core.Bool.{true, false, cond}
-use mathlib.Core.List.{List, [], _∷_, _++_, List·Memᴰ, Perm}
+use mathlib.Core.List.{List, [], _∷_, _++_, map, List·Memᴰ, Perm}
 use mathlib.Core.Logic.{_↔_}
 use mathlib.Core.Option.{none, some}
 use mathlib.Core.Path.{_≡_, sym, ap, _∙_}
 use Rattle.scope.specs.Sheet.{Number, number, field, fits, Line, Clause, Gate, Sheet, sheet, sheetBytes, fieldCount, All, Valid}
 use Rattle.scope.specs.Reading.{fieldOf, lineOf, columnOf, Read, accepted, refused, lineSize, read}
-use Rattle.scope.specs.Causes.{Printed, Begins, Cause, SheetRefusal}
+use Rattle.scope.specs.Causes.{Printed, Begins, Met, Cause, SheetRefusal}
 use Rattle.scope.specs.Source.{Source}
 use lib.ListN.{length, getD, take}
-use Rattle.scope.specs.Meaning.{plans, patterns, literalTrue, switchOn, kept, cost}
+use Rattle.scope.specs.Meaning.{all, any, plans, patterns, literalTrue, switchOn, faultOn, truth, passes, kept, cost}
+use Rattle.scope.specs.Typed.{Typed, Legal, formulaTrue, sheetOf, lineRows}
 use Rattle.scope.specs.Jobs.{task, answerOf, shortOf, ratingOf}
 use Rattle.scope.specs.Demands.{list, Demand2, Demand3, ShortRun, Rates}
 use Rattle.scope.specs.Program.{outputRows}
@@ -27,6 +28,8 @@ use Rattle.scope.specs.laws.Rules as rules
 use Rattle.scope.specs.laws.Rules.{lead}
 use Rattle.scope.specs.laws.Demands as demands
 use Rattle.scope.specs.laws.Outputs as outputs
+use Rattle.scope.specs.laws.TypedSheets as typedSheets
+use Rattle.scope.specs.laws.TypedTruths as typedTruths
 
 -- ---- reading, for lines of n fields
 
@@ -95,6 +98,20 @@ order-free = wishes.cost-order
 
 pub rating-claim : (r : Read) (p : ℕ) (t : Sheet) → r ≡ accepted t → p < plans t → Rates t p (ratingOf r p)
 rating-claim = demands.rating-right
+
+-- ---- typed texts: a legal one whose tests are all met
+
+-- each rule is true exactly if its formula is, as it is written
+pub rules-as-written : (v : Typed) (s : List ℕ) → Legal v s → All Met (lineRows v) → (plan pattern : ℕ) → map (truth (sheetOf v) plan pattern) (sheetOf v .rules) ≡ map (formulaTrue (switchOn (sheetOf v) plan) (faultOn (sheetOf v) pattern)) (v .rules)
+rules-as-written v s l m = typedTruths.rules-true v (typedSheets.rules-on-sheet v s l m)
+
+-- so a plan passes a pattern exactly if all formulas are true
+pub passes-as-written : (v : Typed) (s : List ℕ) → Legal v s → All Met (lineRows v) → (plan pattern : ℕ) → passes (sheetOf v) plan pattern ≡ all (formulaTrue (switchOn (sheetOf v) plan) (faultOn (sheetOf v) pattern)) (v .rules)
+passes-as-written v s l m = typedTruths.passes-written v (typedSheets.rules-on-sheet v s l m)
+
+-- each wish is kept exactly if one of its literals is true, as it is written
+pub wishes-as-written : (v : Typed) (plan : ℕ) → map (kept (sheetOf v) plan) (sheetOf v .wishes) ≡ map (λ w. any (literalTrue (switchOn (sheetOf v) plan)) w) (v .wishes)
+wishes-as-written = typedTruths.wishes-written
 
 -- ---- demands 2 and 3
 

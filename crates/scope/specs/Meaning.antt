@@ -59,6 +59,9 @@ module _ (t : Sheet) where
   unfoldable pub switchOn : (plan : ℕ) → ℕ → Bool
   switchOn plan = nth (bits (t .switches) plan)
 
+  unfoldable pub faultOn : (pattern : ℕ) → ℕ → Bool
+  faultOn pattern = nth (bits (t .faults) pattern)
+
   unfoldable pub truth : (plan pattern : ℕ) → ℕ → Bool
   truth plan pattern = nth (truths (bits (t .switches) plan ++ bits (t .faults) pattern) (t .gates))
 

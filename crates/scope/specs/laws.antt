@@ -15,3 +15,5 @@ pub mod Pigeon
 pub mod Rules
 pub mod Demands
 pub mod Outputs
+pub mod TypedSheets
+pub mod TypedTruths

@@ -130,7 +130,7 @@ module _ (n : ℕ) (s : List ℕ) where
 
 -- ---- which numbers
 
-first-in : (P : ℕ → Type 0) (rs : List Row) → All (λ r. P (r .0)) rs → {c : ℕ} → First c rs → P c
+pub first-in : (P : ℕ → Type 0) (rs : List Row) → All (λ r. P (r .0)) rs → {c : ℕ} → First c rs → P c
 first-in P rs a f = go f a
   where
     go : {c : ℕ} {rs : List Row} → First c rs → All (λ r. P (r .0)) rs → P c

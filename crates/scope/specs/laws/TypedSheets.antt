@@ -1,0 +1,244 @@
+-- The sheet of a typed text whose tests are all met is valid, and what is read from a typed text is a source. Assumes nothing.
+use Prim.Native.Nat.{ℕ, suc, _+_, _≤_}
+use native.Mathlib.Nat.{add-zero}
+use native.Mathlib.Omega.{arith}
+use mathlib.Core.Bool.{true}
+use mathlib.Core.List.{List, [], _∷_, _++_}
+use mathlib.Core.Path.{_≡_, refl, ap, subst}
+use lib.Dec.{leb, ltb}
+use lib.ListN.{length, length-append}
+use borrow.Author.Tests.{leb-true, ltb-true}
+use Rattle.scope.specs.Sheet.{Clause, Gate, Sheet, All, Among, Names, Ordered, Wish, Valid, mostSwitches, mostFaults, mostGates, mostRules, mostWishes}
+use Rattle.scope.specs.Reading.{Row, Read}
+use Rattle.scope.specs.Reading as reading
+use Rattle.scope.specs.Causes.{Met}
+use Rattle.scope.specs.Source.{Refusal, Source}
+use Rattle.scope.specs.Meaning.{all}
+use Rattle.scope.specs.Typed.{Formula, Typed, Level, Written, RuleLines, Writable, Legal, mostNumber, wishLines, operators, point, gatesOf, allGates, allPoints, known, ruleRows, wishRows, lineRows, sheetOf}
+use Rattle.scope.specs.Texts.{FirstLine, TextRead, tooLong, notLegal, atFault, accepted}
+use Rattle.scope.specs.laws.Tests.{both}
+use Rattle.scope.specs.laws.Refusals.{first-in}
+use Rattle.scope.specs.laws.Inverse.{all-append}
+
+all-parts : {A : Type 0} (P : A → Type 0) (r s : List A) → All P (r ++ s) → All P r × All P s
+all-parts P [] s h = (tt, h)
+all-parts P (x ∷ r) s (p, h) = let (g, k) = all-parts P r s h in ((p, g), k)
+
+ordered-append : (m k : ℕ) (gs hs : List Gate) → m + length gs ≡ k → Ordered m gs → Ordered k hs → Ordered m (gs ++ hs)
+ordered-append m k [] hs e g h = subst (λ j. Ordered j hs) (omega arith) h
+ordered-append m k (x ∷ gs) hs e (p, g) h = (p, ordered-append (suc m) k gs hs (omega arith) g h)
+
+-- ---- rules, with a switches and f faults
+module _ (a f : ℕ) where
+  -- a formula names only switches 1 to a and faults 1 to f
+  abbrev pub OnSheet : Formula → Type 0
+  OnSheet (Formula.switch k) = Among a k
+  OnSheet (Formula.fault k) = Among f k
+  OnSheet (Formula.not x) = OnSheet x
+  OnSheet (Formula.and x y) = OnSheet x × OnSheet y
+  OnSheet (Formula.or x y) = OnSheet x × OnSheet y
+
+  -- no 0 is written, and the test spares what is too high
+  written-on-sheet : {l : Level} {d : ℕ} {x : Formula} {s : List ℕ} → Written l d x s → known a f x ≡ true → OnSheet x
+  unfolding known
+  written-on-sheet (Written.switch {k} (low, high)) e = (low, leb-true k a e)
+  written-on-sheet (Written.fault {k} (low, high)) e = (low, leb-true k f e)
+  written-on-sheet (Written.not g w) e = written-on-sheet w e
+  written-on-sheet (Written.bracket g w h) e = written-on-sheet w e
+  written-on-sheet (Written.alone w) e = written-on-sheet w e
+  written-on-sheet (Written.and {x} {y} v g h w) e = let (p, q) = both (known a f x) (known a f y) e in (written-on-sheet v p, written-on-sheet w q)
+  written-on-sheet (Written.single w) e = written-on-sheet w e
+  written-on-sheet (Written.or {x} {y} v g h w) e = let (p, q) = both (known a f x) (known a f y) e in (written-on-sheet v p, written-on-sheet w q)
+
+  -- ---- a formula's gates, n before them
+
+  pub length-gates : (n : ℕ) (x : Formula) → length (gatesOf a f n x) ≡ operators x
+  unfolding gatesOf operators
+  length-gates n (Formula.switch k) = refl
+  length-gates n (Formula.fault k) = refl
+  length-gates n (Formula.not x) = simp length-append (omega (arith, length-gates n x))
+  length-gates n (Formula.and x y) = simp length-append (omega (arith, length-gates n x, length-gates (n + operators x) y))
+  length-gates n (Formula.or x y) = simp length-append (omega (arith, length-gates n x, length-gates (n + operators x) y))
+
+  -- its point is one of those that stand when they do
+  point-among : (n : ℕ) (x : Formula) → OnSheet x → Among (a + f + (n + operators x)) (point a f n x)
+  unfolding point operators
+  point-among n (Formula.switch k) h = omega arith
+  point-among n (Formula.fault k) h = omega arith
+  point-among n (Formula.not x) h = omega arith
+  point-among n (Formula.and x y) h = omega arith
+  point-among n (Formula.or x y) h = omega arith
+
+  -- a gate of two formulas, after theirs
+  two-among : (n : ℕ) (x y : Formula) → OnSheet x → OnSheet y → Among (a + f + (n + operators x + operators y)) (point a f n x) × Among (a + f + (n + operators x + operators y)) (point a f (n + operators x) y)
+  two-among n x y h i = omega (arith, point-among n x h, point-among (n + operators x) y i)
+
+  two-ordered : (n : ℕ) (x y : Formula) (g : Gate) → Ordered (a + f + n) (gatesOf a f n x) → Ordered (a + f + (n + operators x)) (gatesOf a f (n + operators x) y) → Names (a + f + (n + operators x + operators y)) g → Ordered (a + f + n) (gatesOf a f n x ++ gatesOf a f (n + operators x) y ++ g ∷ [])
+  two-ordered n x y g h i p =
+      let m : ℕ = n + operators x in
+      let e : length (gatesOf a f n x) ≡ operators x = length-gates n x in
+      let d : length (gatesOf a f m y) ≡ operators y = length-gates m y in
+      ordered-append (a + f + n) (a + f + (m + operators y)) (gatesOf a f n x ++ gatesOf a f m y) (g ∷ []) (simp length-append (omega arith))
+      (ordered-append (a + f + n) (a + f + m) (gatesOf a f n x) (gatesOf a f m y) (omega arith) h i) (p, tt)
+
+  gates-ordered : (n : ℕ) (x : Formula) → OnSheet x → Ordered (a + f + n) (gatesOf a f n x)
+  unfolding gatesOf
+  gates-ordered n (Formula.switch k) h = tt
+  gates-ordered n (Formula.fault k) h = tt
+  gates-ordered n (Formula.not x) h = ordered-append (a + f + n) (a + f + (n + operators x)) (gatesOf a f n x) (Gate.not (point a f n x) ∷ []) (omega (arith, length-gates n x)) (gates-ordered n x h) (point-among n x h, tt)
+  gates-ordered n (Formula.and x y) (h, i) = two-ordered n x y (Gate.and (point a f n x) (point a f (n + operators x) y)) (gates-ordered n x h) (gates-ordered (n + operators x) y i) (two-among n x y h i)
+  gates-ordered n (Formula.or x y) (h, i) = two-ordered n x y (Gate.or (point a f n x) (point a f (n + operators x) y)) (gates-ordered n x h) (gates-ordered (n + operators x) y i) (two-among n x y h i)
+
+  -- ---- those of several, one after the other
+
+  length-points : (n : ℕ) (xs : List Formula) → length (allPoints a f n xs) ≡ length xs
+  unfolding allPoints
+  length-points n [] = refl
+  length-points n (x ∷ xs) = ap suc (length-points (n + operators x) xs)
+
+  pub all-ordered : (n : ℕ) (xs : List Formula) → All OnSheet xs → Ordered (a + f + n) (allGates a f n xs)
+  unfolding allGates
+  all-ordered n [] h = tt
+  all-ordered n (x ∷ xs) (h, hs) = ordered-append (a + f + n) (a + f + (n + operators x)) (gatesOf a f n x) (allGates a f (n + operators x) xs) (omega (arith, length-gates n x)) (gates-ordered n x h) (all-ordered (n + operators x) xs hs)
+
+  -- m gates stand in the end
+  points-among : (m n : ℕ) (xs : List Formula) → n + length (allGates a f n xs) ≤ m → All OnSheet xs → All (Among (a + f + m)) (allPoints a f n xs)
+  unfolding allGates allPoints
+  points-among m n [] l h = tt
+  points-among m n (x ∷ xs) l (h, hs) =
+      let e : n + operators x + length (allGates a f (n + operators x) xs) ≤ m = omega (arith, length-gates n x, length-append (gatesOf a f n x) (allGates a f (n + operators x) xs)) in
+      (omega (arith, point-among n x h), points-among m (n + operators x) xs e hs)
+
+  -- ---- what their tests spare, i rules before them
+
+  -- 5
+  rules-few : (n i : ℕ) (xs : List Formula) → n ≤ mostGates → i ≤ mostRules → All Met (ruleRows a f n i xs) → (n + length (allGates a f n xs) ≤ mostGates) × (i + length xs ≤ mostRules)
+  unfolding ruleRows allGates
+  rules-few n i [] g r m = omega arith
+  rules-few n i (x ∷ xs) g r ((c, k), m) =
+      let (d, e) = both (leb (n + operators x) mostGates) (ltb i mostRules) c in
+      let h : suc i ≤ mostRules = ltb-true i mostRules e in
+      omega (arith, rules-few (n + operators x) (suc i) xs (leb-true (n + operators x) mostGates d) h m, length-gates n x, length-append (gatesOf a f n x) (allGates a f (n + operators x) xs))
+
+  -- 6
+  formulas-on-sheet : (n i : ℕ) {xs : List Formula} {s : List ℕ} → RuleLines xs s → All Met (ruleRows a f n i xs) → All OnSheet xs
+  unfolding ruleRows
+  formulas-on-sheet n i RuleLines.none m = tt
+  formulas-on-sheet n i (RuleLines.next {x} w r) ((c, (k, t)), m) = (written-on-sheet w k, formulas-on-sheet (n + operators x) (suc i) r m)
+
+-- ---- wishes, j before them
+
+literals-among : (a : ℕ) (w : Clause) → All (λ x. Among mostNumber (x .size)) w → all (λ x. leb (x .size) a) w ≡ true → All (λ x. Among a (x .size)) w
+literals-among a [] h e = tt
+literals-among a (x ∷ w) ((low, high), h) e = let (p, q) = both (leb (x .size) a) (all (λ x. leb (x .size) a) w) e in ((low, leb-true (x .size) a p), literals-among a w h q)
+
+module _ (a f : ℕ) where
+  -- 5
+  wishes-few : (j : ℕ) (ws : List Clause) → j ≤ mostWishes → All Met (wishRows a f j ws) → j + length ws ≤ mostWishes
+  unfolding wishRows
+  wishes-few j [] l m = omega arith
+  wishes-few j (w ∷ ws) l ((c, k), m) = omega (arith, wishes-few (suc j) ws (ltb-true j mostWishes c) m)
+
+  -- 6
+  wishes-on-sheet : (j : ℕ) (ws : List Clause) → All Writable ws → All Met (wishRows a f j ws) → All (Wish a) ws
+  unfolding wishRows
+  wishes-on-sheet j [] h m = tt
+  wishes-on-sheet j (w ∷ ws) ((some, few, among), h) ((c, (k, t)), m) = ((few, literals-among a w among k), wishes-on-sheet (suc j) ws h m)
+
+-- ---- the sheet
+
+pub rules-on-sheet : (v : Typed) (s : List ℕ) → Legal v s → All Met (lineRows v) → All (OnSheet (v .switches) (v .faults)) (v .rules)
+unfolding lineRows
+rules-on-sheet v s l (p, (q, m)) = formulas-on-sheet (v .switches) (v .faults) 0 0 (l .written) (all-parts Met (ruleRows (v .switches) (v .faults) 0 0 (v .rules)) (wishRows (v .switches) (v .faults) 0 (v .wishes)) m .0)
+
+pub sheet-valid : (v : Typed) (s : List ℕ) → Legal v s → All Met (lineRows v) → Valid (sheetOf v)
+unfolding lineRows sheetOf
+sheet-valid v s l ((p, t), ((q, u), m)) =
+    let a : ℕ = v .switches in
+    let f : ℕ = v .faults in
+    let (r, w) = all-parts Met (ruleRows a f 0 0 (v .rules)) (wishRows a f 0 (v .wishes)) m in
+    let (gates, rules) = rules-few a f 0 0 (v .rules) (omega arith) (omega arith) r in
+    let known : All (OnSheet a f) (v .rules) = formulas-on-sheet a f 0 0 (l .written) r in
+    record {
+      switches = leb-true a mostSwitches p;
+      faults = leb-true f mostFaults q;
+      few-gates = omega arith;
+      few-rules = omega (arith, length-points a f 0 (v .rules));
+      few-wishes = omega (arith, wishes-few a f 0 (v .wishes) (omega arith) w);
+      gates = rw add-zero at (all-ordered a f 0 (v .rules) known);
+      rules = points-among a f (length (allGates a f 0 (v .rules))) 0 (v .rules) (omega arith) known;
+      wishes = wishes-on-sheet a f 0 (v .wishes) (l .wishes) w;
+    }
+
+-- ---- a refusal's place: a line is at least its line feed, so a text has no more lines than bytes
+
+rules-long : {xs : List Formula} {s : List ℕ} → RuleLines xs s → length xs ≤ length s
+rules-long RuleLines.none = omega arith
+rules-long (RuleLines.next w r) = simp length-append (omega (arith, rules-long r))
+
+wishes-long : (ws : List Clause) → length ws ≤ length (wishLines ws)
+unfolding wishLines
+wishes-long [] = omega arith
+wishes-long (w ∷ ws) = simp length-append (omega (arith, wishes-long ws))
+
+length-rule-rows : (a f n i : ℕ) (xs : List Formula) → length (ruleRows a f n i xs) ≡ length xs
+unfolding ruleRows
+length-rule-rows a f n i [] = refl
+length-rule-rows a f n i (x ∷ xs) = ap suc (length-rule-rows a f (n + operators x) (suc i) xs)
+
+length-wish-rows : (a f j : ℕ) (ws : List Clause) → length (wishRows a f j ws) ≡ length ws
+unfolding wishRows
+length-wish-rows a f j [] = refl
+length-wish-rows a f j (w ∷ ws) = ap suc (length-wish-rows a f (suc j) ws)
+
+few-lines : (v : Typed) (s : List ℕ) → Legal v s → length (lineRows v) ≤ length s
+unfolding lineRows
+few-lines v s l = rw (l .text) (simp length-append (omega (arith, rules-long (l .written), wishes-long (v .wishes), length-rule-rows (v .switches) (v .faults) 0 0 (v .rules), length-wish-rows (v .switches) (v .faults) 0 (v .wishes))))
+
+fault-within : {c k : ℕ} {rss : List (List Row)} → FirstLine c k rss → k ≤ length rss
+fault-within (FirstLine.here f) = omega arith
+fault-within (FirstLine.later m f) = omega (arith, fault-within f)
+
+-- ---- its number: 4, 5 or 6 if the text is legal, so none of the jobs' own
+
+abbrev Numbered : List Row → Type 0
+Numbered rs = All (λ r. Among 6 (r .0)) rs
+
+rule-numbers : (a f n i : ℕ) (xs : List Formula) → All Numbered (ruleRows a f n i xs)
+unfolding ruleRows
+rule-numbers a f n i [] = tt
+rule-numbers a f n i (x ∷ xs) = ((omega arith, (omega arith, tt)), rule-numbers a f (n + operators x) (suc i) xs)
+
+wish-numbers : (a f j : ℕ) (ws : List Clause) → All Numbered (wishRows a f j ws)
+unfolding wishRows
+wish-numbers a f j [] = tt
+wish-numbers a f j (w ∷ ws) = ((omega arith, (omega arith, tt)), wish-numbers a f (suc j) ws)
+
+line-numbers : (v : Typed) → All Numbered (lineRows v)
+unfolding lineRows
+line-numbers v =
+    let a : ℕ = v .switches in
+    let f : ℕ = v .faults in
+    ((omega arith, tt), ((omega arith, tt), all-append Numbered (ruleRows a f 0 0 (v .rules)) (wishRows a f 0 (v .wishes)) (rule-numbers a f 0 0 (v .rules)) (wish-numbers a f 0 (v .wishes))))
+
+fault-number : {c k : ℕ} {rss : List (List Row)} → FirstLine c k rss → All Numbered rss → Among 6 c
+fault-number (FirstLine.here {rs} f) (n, ns) = first-in (Among 6) rs n f
+fault-number (FirstLine.later m f) (n, ns) = fault-number f ns
+
+-- ---- the source
+
+pub text-refusal : {s : List ℕ} {c place column : ℕ} → TextRead s (reading.refused c place column) → Refusal c place column
+text-refusal (tooLong h) = record { some = omega arith; own = λ e. omega arith; number = omega arith; place = omega arith; column = omega arith }
+text-refusal (notLegal h l n) = record { some = omega arith; own = λ e. omega arith; number = omega arith; place = omega (arith, n .within); column = omega arith }
+text-refusal {s} (atFault {v} h l e) =
+    let (low, high) = fault-number e (line-numbers v) in
+    record { some = low; own = λ i. absurd (omega arith); number = omega arith; place = omega (arith, fault-within e, few-lines v s l); column = omega arith }
+
+text-valid : {s : List ℕ} {t : Sheet} → TextRead s (reading.accepted t) → Valid t
+text-valid {s} (accepted {v} h l m) = sheet-valid v s l m
+
+pub reads-source : (s : List ℕ) (r : Read) → TextRead s r → Source r
+reads-source s r h = record {
+  valid = λ t e. text-valid (rw e at h);
+  refusal = λ c place column e. text-refusal (rw e at h);
+}
