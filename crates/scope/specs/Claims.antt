@@ -99,13 +99,13 @@ order-free = wishes.cost-order
 pub rating-claim : (r : Read) (p : ℕ) (t : Sheet) → r ≡ accepted t → p < plans t → Rates t p (ratingOf r p)
 rating-claim = demands.rating-right
 
--- ---- typed texts: a legal one whose tests are all met
+-- ---- typed texts
 
--- each rule is true exactly if its formula is, as it is written
+-- of a legal text whose tests are all met, each rule is true exactly if its formula is, as it is written
 pub rules-as-written : (v : Typed) (s : List ℕ) → Legal v s → All Met (lineRows v) → (plan pattern : ℕ) → map (truth (sheetOf v) plan pattern) (sheetOf v .rules) ≡ map (formulaTrue (switchOn (sheetOf v) plan) (faultOn (sheetOf v) pattern)) (v .rules)
 rules-as-written v s l m = typedTruths.rules-true v (typedSheets.rules-on-sheet v s l m)
 
--- so a plan passes a pattern exactly if all formulas are true
+-- so a plan passes a pattern exactly if all formulas of the text are true
 pub passes-as-written : (v : Typed) (s : List ℕ) → Legal v s → All Met (lineRows v) → (plan pattern : ℕ) → passes (sheetOf v) plan pattern ≡ all (formulaTrue (switchOn (sheetOf v) plan) (faultOn (sheetOf v) pattern)) (v .rules)
 passes-as-written v s l m = typedTruths.passes-written v (typedSheets.rules-on-sheet v s l m)
 

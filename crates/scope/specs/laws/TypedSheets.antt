@@ -20,6 +20,8 @@ use Rattle.scope.specs.laws.Tests.{both}
 use Rattle.scope.specs.laws.Refusals.{first-in}
 use Rattle.scope.specs.laws.Inverse.{all-append}
 
+-- ---- parts of lists
+
 all-parts : {A : Type 0} (P : A → Type 0) (r s : List A) → All P (r ++ s) → All P r × All P s
 all-parts P [] s h = (tt, h)
 all-parts P (x ∷ r) s (p, h) = let (g, k) = all-parts P r s h in ((p, g), k)
@@ -38,7 +40,7 @@ module _ (a f : ℕ) where
   OnSheet (Formula.and x y) = OnSheet x × OnSheet y
   OnSheet (Formula.or x y) = OnSheet x × OnSheet y
 
-  -- no 0 is written, and the test spares what is too high
+  -- no 0 is written, and what is too high fails the test
   written-on-sheet : {l : Level} {d : ℕ} {x : Formula} {s : List ℕ} → Written l d x s → known a f x ≡ true → OnSheet x
   unfolding known
   written-on-sheet (Written.switch {k} (low, high)) e = (low, leb-true k a e)
@@ -60,7 +62,7 @@ module _ (a f : ℕ) where
   length-gates n (Formula.and x y) = simp length-append (omega (arith, length-gates n x, length-gates (n + operators x) y))
   length-gates n (Formula.or x y) = simp length-append (omega (arith, length-gates n x, length-gates (n + operators x) y))
 
-  -- its point is one of those that stand when they do
+  -- its point is its last gate's, or one of a switch or fault
   point-among : (n : ℕ) (x : Formula) → OnSheet x → Among (a + f + (n + operators x)) (point a f n x)
   unfolding point operators
   point-among n (Formula.switch k) h = omega arith
@@ -101,7 +103,7 @@ module _ (a f : ℕ) where
   all-ordered n [] h = tt
   all-ordered n (x ∷ xs) (h, hs) = ordered-append (a + f + n) (a + f + (n + operators x)) (gatesOf a f n x) (allGates a f (n + operators x) xs) (omega (arith, length-gates n x)) (gates-ordered n x h) (all-ordered (n + operators x) xs hs)
 
-  -- m gates stand in the end
+  -- on a sheet of m gates
   points-among : (m n : ℕ) (xs : List Formula) → n + length (allGates a f n xs) ≤ m → All OnSheet xs → All (Among (a + f + m)) (allPoints a f n xs)
   unfolding allGates allPoints
   points-among m n [] l h = tt
@@ -109,9 +111,9 @@ module _ (a f : ℕ) where
       let e : n + operators x + length (allGates a f (n + operators x) xs) ≤ m = omega (arith, length-gates n x, length-append (gatesOf a f n x) (allGates a f (n + operators x) xs)) in
       (omega (arith, point-among n x h), points-among m (n + operators x) xs e hs)
 
-  -- ---- what their tests spare, i rules before them
+  -- ---- what their tests say, i rules before them
 
-  -- 5
+  -- that of 5
   rules-few : (n i : ℕ) (xs : List Formula) → n ≤ mostGates → i ≤ mostRules → All Met (ruleRows a f n i xs) → (n + length (allGates a f n xs) ≤ mostGates) × (i + length xs ≤ mostRules)
   unfolding ruleRows allGates
   rules-few n i [] g r m = omega arith
@@ -120,7 +122,7 @@ module _ (a f : ℕ) where
       let h : suc i ≤ mostRules = ltb-true i mostRules e in
       omega (arith, rules-few (n + operators x) (suc i) xs (leb-true (n + operators x) mostGates d) h m, length-gates n x, length-append (gatesOf a f n x) (allGates a f (n + operators x) xs))
 
-  -- 6
+  -- that of 6
   formulas-on-sheet : (n i : ℕ) {xs : List Formula} {s : List ℕ} → RuleLines xs s → All Met (ruleRows a f n i xs) → All OnSheet xs
   unfolding ruleRows
   formulas-on-sheet n i RuleLines.none m = tt
@@ -133,13 +135,13 @@ literals-among a [] h e = tt
 literals-among a (x ∷ w) ((low, high), h) e = let (p, q) = both (leb (x .size) a) (all (λ x. leb (x .size) a) w) e in ((low, leb-true (x .size) a p), literals-among a w h q)
 
 module _ (a f : ℕ) where
-  -- 5
+  -- that of 5
   wishes-few : (j : ℕ) (ws : List Clause) → j ≤ mostWishes → All Met (wishRows a f j ws) → j + length ws ≤ mostWishes
   unfolding wishRows
   wishes-few j [] l m = omega arith
   wishes-few j (w ∷ ws) l ((c, k), m) = omega (arith, wishes-few (suc j) ws (ltb-true j mostWishes c) m)
 
-  -- 6
+  -- that of 6
   wishes-on-sheet : (j : ℕ) (ws : List Clause) → All Writable ws → All Met (wishRows a f j ws) → All (Wish a) ws
   unfolding wishRows
   wishes-on-sheet j [] h m = tt
@@ -153,15 +155,15 @@ rules-on-sheet v s l (p, (q, m)) = formulas-on-sheet (v .switches) (v .faults) 0
 
 pub sheet-valid : (v : Typed) (s : List ℕ) → Legal v s → All Met (lineRows v) → Valid (sheetOf v)
 unfolding lineRows sheetOf
-sheet-valid v s l ((p, t), ((q, u), m)) =
+sheet-valid v s l m =
     let a : ℕ = v .switches in
     let f : ℕ = v .faults in
-    let (r, w) = all-parts Met (ruleRows a f 0 0 (v .rules)) (wishRows a f 0 (v .wishes)) m in
+    let (r, w) = all-parts Met (ruleRows a f 0 0 (v .rules)) (wishRows a f 0 (v .wishes)) (m .1 .1) in
     let (gates, rules) = rules-few a f 0 0 (v .rules) (omega arith) (omega arith) r in
-    let known : All (OnSheet a f) (v .rules) = formulas-on-sheet a f 0 0 (l .written) r in
+    let known : All (OnSheet a f) (v .rules) = rules-on-sheet v s l m in
     record {
-      switches = leb-true a mostSwitches p;
-      faults = leb-true f mostFaults q;
+      switches = leb-true a mostSwitches (m .0 .0);
+      faults = leb-true f mostFaults (m .1 .0 .0);
       few-gates = omega arith;
       few-rules = omega (arith, length-points a f 0 (v .rules));
       few-wishes = omega (arith, wishes-few a f 0 (v .wishes) (omega arith) w);
@@ -172,28 +174,20 @@ sheet-valid v s l ((p, t), ((q, u), m)) =
 
 -- ---- a refusal's place: a line is at least its line feed, so a text has no more lines than bytes
 
-rules-long : {xs : List Formula} {s : List ℕ} → RuleLines xs s → length xs ≤ length s
-rules-long RuleLines.none = omega arith
-rules-long (RuleLines.next w r) = simp length-append (omega (arith, rules-long r))
+module _ (a f : ℕ) where
+  rules-long : (n i : ℕ) {xs : List Formula} {s : List ℕ} → RuleLines xs s → length (ruleRows a f n i xs) ≤ length s
+  unfolding ruleRows
+  rules-long n i RuleLines.none = omega arith
+  rules-long n i (RuleLines.next {x} w r) = simp length-append (omega (arith, rules-long (n + operators x) (suc i) r))
 
-wishes-long : (ws : List Clause) → length ws ≤ length (wishLines ws)
-unfolding wishLines
-wishes-long [] = omega arith
-wishes-long (w ∷ ws) = simp length-append (omega (arith, wishes-long ws))
-
-length-rule-rows : (a f n i : ℕ) (xs : List Formula) → length (ruleRows a f n i xs) ≡ length xs
-unfolding ruleRows
-length-rule-rows a f n i [] = refl
-length-rule-rows a f n i (x ∷ xs) = ap suc (length-rule-rows a f (n + operators x) (suc i) xs)
-
-length-wish-rows : (a f j : ℕ) (ws : List Clause) → length (wishRows a f j ws) ≡ length ws
-unfolding wishRows
-length-wish-rows a f j [] = refl
-length-wish-rows a f j (w ∷ ws) = ap suc (length-wish-rows a f (suc j) ws)
+  wishes-long : (j : ℕ) (ws : List Clause) → length (wishRows a f j ws) ≤ length (wishLines ws)
+  unfolding wishRows wishLines
+  wishes-long j [] = omega arith
+  wishes-long j (w ∷ ws) = simp length-append (omega (arith, wishes-long (suc j) ws))
 
 few-lines : (v : Typed) (s : List ℕ) → Legal v s → length (lineRows v) ≤ length s
 unfolding lineRows
-few-lines v s l = rw (l .text) (simp length-append (omega (arith, rules-long (l .written), wishes-long (v .wishes), length-rule-rows (v .switches) (v .faults) 0 0 (v .rules), length-wish-rows (v .switches) (v .faults) 0 (v .wishes))))
+few-lines v s l = rw (l .text) (simp length-append (omega (arith, rules-long (v .switches) (v .faults) 0 0 (l .written), wishes-long (v .switches) (v .faults) 0 (v .wishes))))
 
 fault-within : {c k : ℕ} {rss : List (List Row)} → FirstLine c k rss → k ≤ length rss
 fault-within (FirstLine.here f) = omega arith
@@ -204,15 +198,16 @@ fault-within (FirstLine.later m f) = omega (arith, fault-within f)
 abbrev Numbered : List Row → Type 0
 Numbered rs = All (λ r. Among 6 (r .0)) rs
 
-rule-numbers : (a f n i : ℕ) (xs : List Formula) → All Numbered (ruleRows a f n i xs)
-unfolding ruleRows
-rule-numbers a f n i [] = tt
-rule-numbers a f n i (x ∷ xs) = ((omega arith, (omega arith, tt)), rule-numbers a f (n + operators x) (suc i) xs)
+module _ (a f : ℕ) where
+  rule-numbers : (n i : ℕ) (xs : List Formula) → All Numbered (ruleRows a f n i xs)
+  unfolding ruleRows
+  rule-numbers n i [] = tt
+  rule-numbers n i (x ∷ xs) = ((omega arith, (omega arith, tt)), rule-numbers (n + operators x) (suc i) xs)
 
-wish-numbers : (a f j : ℕ) (ws : List Clause) → All Numbered (wishRows a f j ws)
-unfolding wishRows
-wish-numbers a f j [] = tt
-wish-numbers a f j (w ∷ ws) = ((omega arith, (omega arith, tt)), wish-numbers a f (suc j) ws)
+  wish-numbers : (j : ℕ) (ws : List Clause) → All Numbered (wishRows a f j ws)
+  unfolding wishRows
+  wish-numbers j [] = tt
+  wish-numbers j (w ∷ ws) = ((omega arith, (omega arith, tt)), wish-numbers (suc j) ws)
 
 line-numbers : (v : Typed) → All Numbered (lineRows v)
 unfolding lineRows

@@ -1,4 +1,4 @@
--- A rule is true exactly if its formula is as it is written, and a wish is kept by its literals as they are written. Assumes nothing.
+-- A rule's truth is that of its formula as it is written, and a wish's that of its literals. Assumes nothing.
 use Prim.Native.Nat.{ℕ, suc, _+_, _<_}
 use native.Mathlib.Nat.{add-zero, zero-add}
 use native.Mathlib.Omega.{arith}
@@ -17,9 +17,9 @@ use Rattle.scope.specs.laws.TypedSheets.{OnSheet, length-gates, all-orde
 abbrev none : Gate
 none = Gate.not 0
 
--- u tells the truth of points: of a switches by s, of f faults by g, and of gates by the points that they name
-module _ (a f : ℕ) (s g u : ℕ → Bool) where
-  -- gates that stand after n others
+-- ---- u is the truth of points, with a switches and f faults
+module _ (a f : ℕ) (u : ℕ → Bool) where
+  -- each of these gates, which stand after n others, is what its points make it
   abbrev Holds : ℕ → List Gate → Type 0
   Holds n hs = (i : ℕ) → i < length hs → u (a + f + suc (n + i)) ≡ gateTruth u (getD hs i none)
 
@@ -46,7 +46,8 @@ module _ (a f : ℕ) (s g u : ℕ → Bool) where
       let e : length ks ≡ operators y = length-gates a f (n + operators x) y in
       (holds-left n hs ks front, holds-right n (n + operators x) hs ks (omega arith) front, holds-last n (n + suc (operators x + operators y)) (hs ++ ks) k (simp length-append (omega arith)) h)
 
-  module _ (switches : (k : ℕ) → Among a k → u k ≡ s k) (faults : (k : ℕ) → Among f k → u (a + k) ≡ g k) where
+  -- s is that of switches, and g of faults
+  module _ (s g : ℕ → Bool) (switches : (k : ℕ) → Among a k → u k ≡ s k) (faults : (k : ℕ) → Among f k → u (a + k) ≡ g k) where
     formula-true : (n : ℕ) (x : Formula) → OnSheet a f x → Holds n (gatesOf a f n x) → u (point a f n x) ≡ formulaTrue s g x
     unfolding point gatesOf operators formulaTrue
     formula-true n (Formula.switch k) o h = switches k o
@@ -76,7 +77,7 @@ all-map : {A : Type 0} (p : A → Bool) (s : List A) → all p s ≡ all (λ b. 
 all-map p [] = refl
 all-map p (x ∷ s) = ap (λ b. p x && b) (all-map p s)
 
--- formulas that name only what is on the sheet
+-- whose formulas name only switches and faults on it
 module _ (v : Typed) (o : All (OnSheet (v .switches) (v .faults)) (v .rules)) (plan pattern : ℕ) where
   pub rules-true : map (truth (sheetOf v) plan pattern) (sheetOf v .rules) ≡ map (formulaTrue (switchOn (sheetOf v) plan) (faultOn (sheetOf v) pattern)) (v .rules)
   unfolding sheetOf faultOn
@@ -85,7 +86,7 @@ module _ (v : Typed) (o : All (OnSheet (v .switches) (v .faults)) (v .rules)) (p
       let a : ℕ = v .switches in
       let f : ℕ = v .faults in
       let ordered : Ordered (a + f) (t .gates) = rw add-zero at (all-ordered a f 0 (v .rules) o) in
-      formulas-true a f (switchOn t plan) (faultOn t pattern) (truth t plan pattern) (truth-switch t plan pattern) (truth-fault t plan pattern) 0 (v .rules) o (λ i l. rw zero-add (truth-gate t plan pattern ordered none i l))
+      formulas-true a f (truth t plan pattern) (switchOn t plan) (faultOn t pattern) (truth-switch t plan pattern) (truth-fault t plan pattern) 0 (v .rules) o (λ i l. rw zero-add (truth-gate t plan pattern ordered none i l))
 
   pub passes-written : passes (sheetOf v) plan pattern ≡ all (formulaTrue (switchOn (sheetOf v) plan) (faultOn (sheetOf v) pattern)) (v .rules)
   unfolding passes
