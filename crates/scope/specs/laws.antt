@@ -17,3 +17,4 @@ pub mod Demands
 pub mod Outputs
 pub mod TypedSheets
 pub mod TypedTruths
+pub mod Walked
