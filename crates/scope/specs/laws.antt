@@ -18,3 +18,4 @@ pub mod Outputs
 pub mod TypedSheets
 pub mod TypedTruths
 pub mod Walked
+pub mod TextReads

@@ -29,7 +29,7 @@ pub met-none : (rs : List Row) → Met rs → firstFault rs ≡ none
 met-none [] m = refl
 met-none (r ∷ rs) (e, m) = rw e (met-none rs m)
 
-first : (c : ℕ) (rs : List Row) → firstFault rs ≡ some c → First c rs
+pub first : (c : ℕ) (rs : List Row) → firstFault rs ≡ some c → First c rs
 first c [] e = absurd (Option·none-ne-some c e)
 first c ((m, true) ∷ rs) e = later (first c rs e)
 first c ((m, false) ∷ rs) e = subst (λ x. First x ((m, false) ∷ rs)) (Option·some-injective m c e) here

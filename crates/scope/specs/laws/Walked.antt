@@ -29,7 +29,7 @@ step-walk st b t e = rw e
 
 -- ---- a number
 
--- a state that no digit goes on from, and no text ends in
+-- a state that waits for no second digit, and that no text ends in
 abbrev Plain : State → Type 0
 Plain st = ((b : ℕ) → step st b ≡ move st b) × (atEnd st ≡ stuck 0)
 
@@ -280,6 +280,25 @@ stuck-append st (b ∷ p) q {n} e = go (step st b) e (λ next. stuck-append next
   where
     go : (o : Option State) → goOn o (suc (length p)) (λ st. walk st p) ≡ stuck (suc n) → ((next : State) → walk next p ≡ stuck (suc n) → walk next (p ++ q) ≡ stuck (suc n + length q)) → goOn o (suc (length (p ++ q))) (λ st. walk st (p ++ q)) ≡ stuck (suc n + length q)
     go none e more = let i : suc (length p) ≡ suc n = cc in ap stuck (omega (arith, length-append p q))
+    go (some next) e more = more next e
+
+left-within : (st : State) (s : List ℕ) {n : ℕ} → walk st s ≡ stuck n → n ≤ length s
+unfolding walk
+left-within st [] e = omega (arith, end-stuck st e)
+left-within st (b ∷ s) {n} e = go (step st b) e (λ next. left-within next s)
+  where
+    go : (o : Option State) → goOn o (suc (length s)) (λ st. walk st s) ≡ stuck n → ((next : State) → walk next s ≡ stuck n → n ≤ length s) → n ≤ suc (length s)
+    go none e more = let i : suc (length s) ≡ n = cc in omega arith
+    go (some next) e more = omega (arith, more next e)
+
+-- and the bytes after it have no part in it
+pub stuck-front : (st : State) (p q : List ℕ) {n : ℕ} → walk st (p ++ q) ≡ stuck (suc n + length q) → walk st p ≡ stuck (suc n)
+unfolding walk
+stuck-front st [] q e = absurd (omega (arith, left-within st q e))
+stuck-front st (b ∷ p) q {n} e = go (step st b) e (λ next. stuck-front next p q)
+  where
+    go : (o : Option State) → goOn o (suc (length (p ++ q))) (λ st. walk st (p ++ q)) ≡ stuck (suc n + length q) → ((next : State) → walk next (p ++ q) ≡ stuck (suc n + length q) → walk next p ≡ stuck (suc n)) → goOn o (suc (length p)) (λ st. walk st p) ≡ stuck (suc n)
+    go none e more = let i : suc (length (p ++ q)) ≡ suc n + length q = cc in ap stuck (omega (arith, length-append p q))
     go (some next) e more = more next e
 
 pub starts-walk : (p : List ℕ) → Starts p → (n : ℕ) → walk start p ≡ stuck n → n ≡ 0
