@@ -76,6 +76,7 @@ short-enough : (s : List ℕ) (o : Outcome) → length s ≤ mostText → walk s
 unfolding readText
 short-enough s o l e = rw (le-leb (length s) mostText l, e)
 
+-- given that what is walked to a line's end is legal, and that what is walked at all begins a legal text
 module _ (walk-legal : (s : List ℕ) (v : Typed) → walk start s ≡ legal v → Legal v s) (walk-stuck : (s : List ℕ) (n : ℕ) → walk start s ≡ stuck n → (n ≤ length s) × Starts (take (length s - n) s)) where
   stuck-shared : (s : List ℕ) (left : ℕ) → walk start s ≡ stuck left → Shared s (length s - left)
   stuck-shared s left e = record { within = omega arith; starts = walk-stuck s left e .1; longest = stuck-longest s left e }

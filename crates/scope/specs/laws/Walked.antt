@@ -19,6 +19,7 @@ use Rattle.scope.specs.laws.Fields.{by-digits, length-snoc}
 
 -- ---- a byte
 
+-- what comes after a number
 abbrev NoDigit : List ℕ → Type 0
 NoDigit [] = Unit {0}
 NoDigit (b ∷ t) = isDigit b ≡ false
@@ -29,7 +30,7 @@ step-walk st b t e = rw e
 
 -- ---- a number
 
--- a state that waits for no second digit, and that no text ends in
+-- a state that waits for no second digit, and in which no text ends
 abbrev Plain : State → Type 0
 Plain st = ((b : ℕ) → step st b ≡ move st b) × (atEnd st ≡ stuck 0)
 
@@ -86,7 +87,7 @@ numeral-walks slot n t h z e = by-digits (λ s. walk (digits slot) (s ++ t) ≡ 
 
 -- ---- a formula
 
--- a text that a space may stand before
+-- a text that begins, and with no space: one before it is then the gap's
 abbrev Opens : List ℕ → Type 0
 Opens [] = ⊥
 Opens (b ∷ s) = eqb b (code " ") ≡ false
@@ -117,7 +118,7 @@ gap-no-digit : {g : List ℕ} → Gap g → (b : ℕ) (t : List ℕ) → isDigit
 gap-no-digit grammar.none b t e = e
 gap-no-digit grammar.space b t e = refl
 
--- a formula complete: those of the last level still to be joined, and what is around them
+-- a formula is walked: `last` is its part after the last `|`, and `inner` has the parts to the left of it
 record Joined (o : Around ors) (x : Formula) (s t : List ℕ) : Type 0 where
   inner : Around ands
   last : Formula
