@@ -19,3 +19,4 @@ pub mod TypedSheets
 pub mod TypedTruths
 pub mod Walked
 pub mod TextReads
+pub mod Reached

@@ -109,7 +109,7 @@ module _ (n : ℕ) where
 
 -- ---- one more gate, rule or wish: still valid, and one more line
 
-all-snoc : {A : Type 0} (P : A → Type 0) (s : List A) (a : A) → All P s → P a → All P (s ++ a ∷ [])
+pub all-snoc : {A : Type 0} (P : A → Type 0) (s : List A) (a : A) → All P s → P a → All P (s ++ a ∷ [])
 all-snoc P [] a h p = (p, tt)
 all-snoc P (b ∷ s) a h p = (h .0, all-snoc P s a (h .1) p)
 

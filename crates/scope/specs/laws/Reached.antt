@@ -1,0 +1,354 @@
+-- What stands before each place of a typed text that is read byte by byte; so a text that is read to its end is legal. Assumes nothing.
+use Prim.Native.Nat.{ℕ, zero, suc, _+_, _-_, _*_, _/_, _%_, _≤_, _<_}
+use Prim.Native.Char.{code}
+use native.Mathlib.Omega.{arith}
+use mathlib.Core.Bool.{Bool, true, false, cond, _&&_}
+use mathlib.Core.List.{List, [], _∷_, _++_, append-assoc, append-nil}
+use mathlib.Core.Logic.{_≢_}
+use mathlib.Core.Option.{Option, none, some}
+use mathlib.Core.Path.{_≡_, refl, sym, ap, ap₂, subst, _∙_}
+use lib.Dec.{eqb, leb, ltb}
+use lib.ListN.{length}
+use lib.Seq.{append-snoc}
+use borrow.Author.Tests.{eqb-true, eqb-false, leb-true, ltb-true, lt-ltb, le-ltb}
+use Rattle.scope.specs.Text.{bytes}
+use Rattle.scope.specs.Sheet.{Number, number, Clause, digit, decimal, All, Among, mostLiterals}
+use Rattle.scope.specs.Reading.{when}
+use Rattle.scope.specs.Typed.{Formula, Typed, typed, Gap, Level, ors, ands, factor, Written, RuleLines, Writable, Legal, mostNested, mostNumber, numeral, literalBytes, literalsBytes, wishLines}
+use Rattle.scope.specs.Parsing.{Around, nested, Slot, State, feed, addRule, addWish, operandDone, numberDone, joinedOr, outside, closed, fed, isDigit, digitOf, zeroOk, Arm, on, nestedMore, operandArms, signArms, move, step, Outcome, legal, stuck, atEnd, goOn, walk, start}
+use Rattle.scope.specs.laws.Tests.{clash, both}
+use Rattle.scope.specs.laws.Fields.{length-snoc}
+use Rattle.scope.specs.laws.Steps.{all-snoc}
+
+-- ---- one more line, after the others
+
+regroup : (p s t u : List ℕ) → p ++ s ++ t ++ u ≡ p ++ (s ++ (t ++ u))
+regroup p s t u = simp append-assoc
+
+rules-snoc : {xs : List Formula} {x : Formula} {t s : List ℕ} → RuleLines xs t → Written ors mostNested x s → RuleLines (xs ++ x ∷ []) (t ++ (bytes "rule " ++ s ++ feed))
+rules-snoc RuleLines.none w = RuleLines.next w RuleLines.none
+rules-snoc {s} (RuleLines.next {s = r} {t = t} u rs) w = rw (append-assoc (bytes "rule " ++ r) (code "\n" ∷ t) (bytes "rule " ++ s ++ feed)) (RuleLines.next u (rules-snoc rs w))
+
+literals-snoc : (w : Clause) (x : Number) → literalsBytes (w ++ x ∷ []) ≡ literalsBytes w ++ code " " ∷ literalBytes x
+unfolding literalsBytes
+literals-snoc [] x = append-nil (code " " ∷ literalBytes x)
+literals-snoc (y ∷ w) x = ap (λ s. code " " ∷ literalBytes y ++ s) (literals-snoc w x) ∙ sym (append-assoc (code " " ∷ literalBytes y) (literalsBytes w) (code " " ∷ literalBytes x))
+
+wishes-snoc : (ws : List Clause) (w : Clause) → wishLines (ws ++ w ∷ []) ≡ wishLines ws ++ (bytes "wish" ++ literalsBytes w ++ feed)
+unfolding wishLines
+wishes-snoc [] w = refl
+wishes-snoc (u ∷ ws) w = ap (λ s. bytes "wish" ++ literalsBytes u ++ code "\n" ∷ s) (wishes-snoc ws w) ∙ sym (append-assoc (bytes "wish" ++ literalsBytes u) (code "\n" ∷ wishLines ws) (bytes "wish" ++ literalsBytes w ++ feed))
+
+-- ---- a number's one or two digits
+
+digit-byte : (b : ℕ) → isDigit b ≡ true → (code "0" ≤ b) × (b ≤ code "9")
+digit-byte b e = let (p, q) = both (leb (code "0") b) (leb b (code "9")) e in (leb-true (code "0") b p, leb-true b (code "9") q)
+
+one-digit : (n : ℕ) → n ≤ 9 → numeral n ≡ digit n ∷ []
+unfolding decimal
+one-digit n h = rw (lt-ltb n 10 (omega arith))
+
+two-digits : (n b : ℕ) → 1 ≤ n → n ≤ 9 → code "0" ≤ b → b ≤ code "9" → numeral (n * 10 + digitOf b) ≡ digit n ∷ b ∷ []
+unfolding decimal
+two-digits n b h i p q =
+    let m : (n * 10 + digitOf b) / 10 ≡ n = omega arith in
+    let d : digit ((n * 10 + digitOf b) % 10) ≡ b = omega arith in
+    rw (le-ltb (n * 10 + digitOf b) 10 (omega arith), m, lt-ltb n 10 (omega arith), d)
+
+-- ---- what stands before a place
+
+-- p and then a formula of the context's level, at most d deep; the spaces that may stand before the formula are in p
+pub data Before : (l : Level) → Around l → (d : ℕ) → (p : List ℕ) → Type 0 where
+  line : {v : Typed} {p : List ℕ} → Legal v p → v .wishes ≡ [] → Before ors (Around.line v) mostNested (p ++ bytes "rule ")
+  bracket : {k : Around factor} {d : ℕ} {p g : List ℕ} → Before factor k (suc d) p → Gap g → Before ors (Around.bracket k) d (p ++ code "(" ∷ g)
+  first : {o : Around ors} {d : ℕ} {p : List ℕ} → Before ors o d p → Before ands (Around.first o) d p
+  bar : {o : Around ors} {d : ℕ} {x : Formula} {p s g h : List ℕ} → Before ors o d p → Written ors d x s → Gap g → Gap h → Before ands (Around.bar x o) d (p ++ s ++ g ++ code "|" ∷ h)
+  head : {a : Around ands} {d : ℕ} {p : List ℕ} → Before ands a d p → Before factor (Around.head a) d p
+  amp : {a : Around ands} {d : ℕ} {x : Formula} {p s g h : List ℕ} → Before ands a d p → Written ands d x s → Gap g → Gap h → Before factor (Around.amp x a) d (p ++ s ++ g ++ code "&" ∷ h)
+  bang : {k : Around factor} {d : ℕ} {p g : List ℕ} → Before factor k (suc d) p → Gap g → Before factor (Around.bang k) d (p ++ code "!" ∷ g)
+
+-- p is the lines of v, and then a wish with these literals, so far
+pub record Wishing (v : Typed) (w : Clause) (p : List ℕ) : Type 0 where
+  pub lines : List ℕ
+  pub are : Legal v lines
+  pub literals : All (λ x. Among mostNumber (x .size)) w
+  pub text : p ≡ lines ++ (bytes "wish" ++ literalsBytes w)
+
+abbrev pub marked : Bool → List ℕ
+marked minus = cond minus (bytes "!s") (bytes "s")
+
+-- p and then a number
+pub data Asked : Slot → (p : List ℕ) → Type 0 where
+  switches : Asked Slot.switches (bytes "switches ")
+  faults : {a : ℕ} → a ≤ mostNumber → Asked (Slot.faults a) (bytes "switches " ++ numeral a ++ code "\n" ∷ bytes "faults ")
+  switch : {k : Around factor} {d : ℕ} {p : List ℕ} → Before factor k d p → Asked (Slot.switch k) (p ++ bytes "s")
+  fault : {k : Around factor} {d : ℕ} {p : List ℕ} → Before factor k d p → Asked (Slot.fault k) (p ++ bytes "f")
+  literal : {v : Typed} {w : Clause} {p : List ℕ} (minus : Bool) → Wishing v w p → length w < mostLiterals → Asked (Slot.literal v w minus) (p ++ code " " ∷ marked minus)
+
+pub data Reached : State → (p : List ℕ) → Type 0 where
+  word : {w : List ℕ} {st : State} {p : List ℕ} → 1 ≤ length w → Reached st (p ++ w) → Reached (State.word w st) p
+  digits : {slot : Slot} {p : List ℕ} → Asked slot p → Reached (State.digits slot) p
+  second : {slot : Slot} {n : ℕ} {p : List ℕ} → Asked slot p → Among 9 n → Reached (State.second slot n) (p ++ digit n ∷ [])
+  ruleLine : {v : Typed} {p : List ℕ} → Legal v p → v .wishes ≡ [] → Reached (State.ruleLine v) p
+  wishLine : {v : Typed} {p : List ℕ} → Legal v p → Reached (State.wishLine v) p
+  spaced : {k : Around factor} {d : ℕ} {p : List ℕ} → Before factor k d p → Before factor k d (p ++ bytes " ") → Reached (State.spaced k) p
+  operand : {k : Around factor} {d : ℕ} {p : List ℕ} → Before factor k d p → Reached (State.operand k) p
+  after : {a : Around ands} {d : ℕ} {x : Formula} {p s : List ℕ} → Before ands a d p → Written ands d x s → Reached (State.after a x) (p ++ s)
+  sign : {a : Around ands} {d : ℕ} {x : Formula} {p s : List ℕ} → Before ands a d p → Written ands d x s → Reached (State.sign a x) (p ++ s ++ bytes " ")
+  wish : {v : Typed} {w : Clause} {p : List ℕ} → Wishing v w p → length w < mostLiterals → Reached (State.wish v w) (p ++ bytes " ")
+  ended : {v : Typed} {w : Clause} {p : List ℕ} → Wishing v w p → 1 ≤ length w → length w ≤ mostLiterals → Reached (State.ended v w) p
+
+pub start-reached : Reached start []
+start-reached = word {w = bytes "switches "} (omega arith) (digits switches)
+
+-- ---- a line is complete
+
+head-legal : {a n : ℕ} → a ≤ mostNumber → n ≤ mostNumber → Legal (typed a n [] []) (bytes "switches " ++ numeral a ++ code "\n" ∷ bytes "faults " ++ numeral n ++ feed)
+unfolding wishLines
+head-legal {a} {n} h i = record { switches = h; faults = i; wishes = tt; rules = []; written = RuleLines.none; text = sym (append-nil (bytes "switches " ++ numeral a ++ code "\n" ∷ bytes "faults " ++ numeral n ++ feed)) }
+
+-- the lines before the rules, but for a line feed
+abbrev headed : Typed → List ℕ
+headed v = bytes "switches " ++ numeral (v .switches) ++ code "\n" ∷ bytes "faults " ++ numeral (v .faults)
+
+line-behind : (h t r s : List ℕ) → h ++ code "\n" ∷ t ++ [] ++ r ++ s ++ feed ≡ h ++ code "\n" ∷ (t ++ (r ++ s ++ feed)) ++ []
+line-behind h t r s = simp (append-assoc, append-nil)
+
+module _ {v : Typed} {p : List ℕ} (l : Legal v p) where
+  rule-added : (x : Formula) (s : List ℕ) → v .wishes ≡ [] → Written ors mostNested x s → Legal (addRule v x) (p ++ bytes "rule " ++ s ++ feed)
+  unfolding wishLines
+  rule-added x s e w = record {
+    switches = l .switches;
+    faults = l .faults;
+    wishes = l .wishes;
+    rules = l .rules ++ (bytes "rule " ++ s ++ feed);
+    written = rules-snoc (l .written) w;
+    text = ap (λ q. q ++ bytes "rule " ++ s ++ feed) (l .text ∙ ap (λ ws. headed v ++ code "\n" ∷ l .rules ++ wishLines ws) e)
+        ∙ line-behind (headed v) (l .rules) (bytes "rule ") s
+        ∙ ap (λ ws. headed v ++ code "\n" ∷ (l .rules ++ (bytes "rule " ++ s ++ feed)) ++ wishLines ws) (sym e);
+  }
+
+  wish-added : (w : Clause) → Writable w → Legal (addWish v w) (p ++ (bytes "wish" ++ literalsBytes w) ++ feed)
+  wish-added w h = record {
+    switches = l .switches;
+    faults = l .faults;
+    wishes = all-snoc Writable (v .wishes) w (l .wishes) h;
+    rules = l .rules;
+    written = l .written;
+    text = ap (λ q. q ++ (bytes "wish" ++ literalsBytes w) ++ feed) (l .text)
+        ∙ regroup (headed v ++ code "\n" ∷ l .rules) (wishLines (v .wishes)) (bytes "wish" ++ literalsBytes w) feed
+        ∙ ap (λ s. headed v ++ code "\n" ∷ l .rules ++ s) (sym (wishes-snoc (v .wishes) w));
+  }
+
+-- ---- an operand is complete
+
+inside : (p s g u t : List ℕ) → p ++ s ++ g ++ u ++ t ≡ p ++ (s ++ g ++ u ++ t)
+inside p s g u t = simp append-assoc
+
+operand-done : {k : Around factor} {d : ℕ} {x : Formula} {p s : List ℕ} → Before factor k d p → Written factor d x s → Reached (operandDone k x) (p ++ s)
+unfolding operandDone
+operand-done (head b) w = after b (Written.alone w)
+operand-done {s} (amp {p = p} {s = r} {g = g} {h = h} b y i j) w = rw (inside p r g (code "&" ∷ h) s) (after b (Written.and y i j w))
+operand-done {s} (bang {p = p} {g = g} b i) w = rw (append-assoc p (code "!" ∷ g) s) (operand-done b (Written.not i w))
+
+-- ---- a number is complete
+
+mark-bytes : (minus : Bool) (n : ℕ) → literalBytes (number minus n) ≡ marked minus ++ numeral n
+mark-bytes true n = refl
+mark-bytes false n = refl
+
+literal-behind : (p s t u n : List ℕ) → p ++ (s ++ t) ++ u ++ n ≡ p ++ (s ++ (t ++ (u ++ n)))
+literal-behind p s t u n = simp append-assoc
+
+literal-added : {v : Typed} {w : Clause} {p : List ℕ} (minus : Bool) (n : ℕ) → Wishing v w p → Among mostNumber n → Wishing v (w ++ number minus n ∷ []) (p ++ code " " ∷ marked minus ++ numeral n)
+literal-added {w} {p} minus n h i = record {
+  lines = h .lines;
+  are = h .are;
+  literals = all-snoc (λ x. Among mostNumber (x .size)) w (number minus n) (h .literals) i;
+  text = ap (λ q. q ++ code " " ∷ marked minus ++ numeral n) (h .text)
+      ∙ literal-behind (h .lines) (bytes "wish") (literalsBytes w) (code " " ∷ marked minus) (numeral n)
+      ∙ ap (λ s. h .lines ++ (bytes "wish" ++ s)) (sym (literals-snoc w (number minus n) ∙ ap (λ s. literalsBytes w ++ code " " ∷ s) (mark-bytes minus n)));
+}
+
+number-done : {slot : Slot} {p : List ℕ} (n : ℕ) → Asked slot p → (zeroOk slot ≡ false → 1 ≤ n) → n ≤ mostNumber → Reached (numberDone slot n) (p ++ numeral n)
+unfolding numberDone
+number-done n switches h i = word {w = feed ++ bytes "faults "} (omega arith) (digits (faults i))
+number-done n (faults {a = a} j) h i = word {w = feed} (omega arith) (ruleLine (head-legal j i) refl)
+number-done n (switch {p = p} b) h i = rw (append-assoc p (bytes "s") (numeral n)) (operand-done b (Written.switch (h refl, i)))
+number-done n (fault {p = p} b) h i = rw (append-assoc p (bytes "f") (numeral n)) (operand-done b (Written.fault (h refl, i)))
+number-done n (literal {w = w} minus u j) h i = ended (literal-added minus n u (h refl, i)) (omega (arith, length-snoc w (number minus n))) (omega (arith, length-snoc w (number minus n)))
+
+-- ---- one more byte
+
+-- what holds of the state that comes next, if any does
+abbrev pub IfSome : (State → Type 0) → Option State → Type 0
+IfSome P none = Unit {0}
+IfSome P (some st) = P st
+
+if-when : (P : State → Type 0) (t : Bool) (st : State) → (t ≡ true → P st) → IfSome P (when t st)
+if-when P true st h = h refl
+if-when P false st h = tt
+
+if-cond : (P : State → Type 0) (t : Bool) (o q : Option State) → (t ≡ true → IfSome P o) → (t ≡ false → IfSome P q) → IfSome P (cond t o q)
+if-cond P true o q f g = f refl
+if-cond P false o q f g = g refl
+
+-- each arm leads on from p, by its own byte
+abbrev Arms : List ℕ → List Arm → Type 0
+Arms p rs = All (λ r. IfSome (λ to. Reached to (p ++ r .0 ∷ [])) (r .1)) rs
+
+arms-on : (p : List ℕ) (b : ℕ) (rs : List Arm) → Arms p rs → IfSome (λ to. Reached to (p ++ b ∷ [])) (on b rs)
+arms-on p b [] h = tt
+arms-on p b (r ∷ rs) h = if-cond (λ to. Reached to (p ++ b ∷ [])) (eqb b (r .0)) (r .1) (on b rs)
+    (λ e. subst (λ c. IfSome (λ to. Reached to (p ++ c ∷ [])) (r .1)) (sym (eqb-true b (r .0) e)) (h .0))
+    (λ e. arms-on p b rs (h .1))
+
+-- ---- an operand
+
+before-nested : {l : Level} {k : Around l} {d : ℕ} {p : List ℕ} → Before l k d p → nested k + d ≡ mostNested
+unfolding nested
+before-nested (line l e) = refl
+before-nested (bracket b g) = omega (arith, before-nested b)
+before-nested (first b) = before-nested b
+before-nested (bar b w g h) = before-nested b
+before-nested (head b) = before-nested b
+before-nested (amp b w g h) = before-nested b
+before-nested (bang b g) = omega (arith, before-nested b)
+
+if-nested : (P : State → Type 0) (k : Around factor) (st : State) (d : ℕ) (p : List ℕ) → Before factor k d p → ((e : ℕ) → Before factor k (suc e) p → P st) → IfSome P (nestedMore k st)
+unfolding nestedMore
+if-nested P k st zero p b f = if-when P (ltb (nested k) mostNested) st (λ e. absurd (omega (arith, ltb-true (nested k) mostNested e, before-nested b)))
+if-nested P k st (suc d) p b f = if-when P (ltb (nested k) mostNested) st (λ e. f d b)
+
+operand-arms : (k : Around factor) (d : ℕ) (p : List ℕ) → Before factor k d p → Arms p (operandArms k)
+operand-arms k d p b = (
+  digits (switch b),
+  (
+    digits (fault b),
+    (
+      if-nested (λ to. Reached to (p ++ bytes "!")) k (State.spaced (Around.bang k)) d p b (λ e c. spaced (bang c Gap.none) (rw append-snoc (bang c Gap.space))),
+      (if-nested (λ to. Reached to (p ++ bytes "(")) k (State.spaced (Around.head (Around.first (Around.bracket k)))) d p b (λ e c. spaced (head (first (bracket c Gap.none))) (rw append-snoc (head (first (bracket c Gap.space))))), tt),
+    ),
+  ),
+)
+
+-- ---- a sign after an operand
+
+-- q ends in a formula at the level of `|`, of the context o
+data Joined (o : Around ors) (d : ℕ) (x : Formula) : (q : List ℕ) → Type 0 where
+  joined : {p s : List ℕ} → Before ors o d p → Written ors d x s → Joined o d x (p ++ s)
+
+join : {a : Around ands} {d : ℕ} {x : Formula} {p s : List ℕ} → Before ands a d p → Written ands d x s → Joined (outside a) d (joinedOr a x) (p ++ s)
+join (first b) w = joined b (Written.single w)
+join {s} (bar {p = p} {s = r} {g = g} {h = h} b y i j) w = rw (inside p r g (code "|" ∷ h) s) (joined b (Written.or y i j w))
+
+fed-reached : {o : Around ors} {d : ℕ} {x : Formula} {q : List ℕ} → Joined o d x q → IfSome (λ to. Reached to (q ++ feed)) (fed o x)
+fed-reached {x} (joined {s = s} (line l e) w) = ruleLine (rule-added l x s e w) e
+fed-reached (joined (bracket b g) w) = tt
+
+closed-reached : {o : Around ors} {d : ℕ} {x : Formula} {q g : List ℕ} → Joined o d x q → Gap g → IfSome (λ to. Reached to (q ++ g ++ bytes ")")) (closed o x)
+closed-reached (joined (line l e) w) i = tt
+closed-reached {g} (joined {s = s} (bracket {p = p} {g = h} b j) w) i = rw (inside p (code "(" ∷ h) s g (bytes ")")) (operand-done b (Written.bracket j w i))
+
+join-arms : {o : Around ors} {d : ℕ} {x : Formula} {q g : List ℕ} → Joined o d x q → Gap g → Reached (State.spaced (Around.head (Around.bar x o))) (q ++ g ++ bytes "|")
+join-arms (joined b w) i = spaced (head (bar b w i Gap.none)) (rw append-snoc (head (bar b w i Gap.space)))
+
+sign-arms : {a : Around ands} {d : ℕ} {x : Formula} {p s g : List ℕ} → Before ands a d p → Written ands d x s → Gap g → Arms (p ++ s ++ g) (signArms a x)
+sign-arms b w i = (spaced (amp b w i Gap.none) (rw append-snoc (amp b w i Gap.space)), (join-arms (join b w) i, (closed-reached (join b w) i, tt)))
+
+-- ---- any state
+
+wish-begun : {v : Typed} {p : List ℕ} → Legal v p → Reached (State.word (bytes "ish ") (State.wish v [])) (p ++ bytes "w")
+unfolding literalsBytes
+wish-begun {v} {p} l =
+    let e : p ++ bytes "wish" ++ bytes " " ≡ p ++ bytes "w" ++ bytes "ish " = simp append-assoc in
+    word {w = bytes "ish "} (omega arith) (subst (Reached (State.wish v [])) e (wish record { lines = p; are = l; literals = tt; text = refl } (omega arith)))
+
+word-moves : (b : ℕ) (w : List ℕ) (st : State) (p : List ℕ) → Reached st (p ++ w) → IfSome (λ to. Reached to (p ++ b ∷ [])) (move (State.word w st) b)
+unfolding move
+word-moves b [] st p r = tt
+word-moves b (c ∷ []) st p r = arms-on p b ((c, some st) ∷ []) (r, tt)
+word-moves b (c ∷ d ∷ w) st p r = arms-on p b ((c, some (State.word (d ∷ w) st)) ∷ []) (word (omega arith) (rw append-snoc r), tt)
+
+digit-moves : (b : ℕ) (slot : Slot) (p : List ℕ) → Asked slot p → IfSome (λ to. Reached to (p ++ b ∷ [])) (move (State.digits slot) b)
+unfolding move decimal
+digit-moves b slot p h = if-cond P (eqb b (code "0")) (when (zeroOk slot) (numberDone slot 0)) (when (isDigit b) (State.second slot (digitOf b)))
+    (λ e. if-when P (zeroOk slot) (numberDone slot 0) (λ z. rw (eqb-true b (code "0") e) (number-done 0 h (λ f. clash z f) (omega arith))))
+    (λ e. if-when P (isDigit b) (State.second slot (digitOf b)) (λ z.
+    let (i, j) = digit-byte b z in
+    let ne : b ≢ code "0" = eqb-false b (code "0") e in
+    let d : digit (digitOf b) ≡ b = omega arith in
+    subst (λ c. Reached (State.second slot (digitOf b)) (p ++ c ∷ [])) d (second h (omega arith, omega arith))))
+  where
+    P : State → Type 0
+    P to = Reached to (p ++ b ∷ [])
+
+move-reached : (b : ℕ) {st : State} {p : List ℕ} → Reached st p → IfSome (λ to. Reached to (p ++ b ∷ [])) (move st b)
+unfolding move
+move-reached b (word {w = w} {st = st} {p = p} h r) = word-moves b w st p r
+move-reached b (digits {slot = slot} {p = p} h) = digit-moves b slot p h
+move-reached b (second h i) = tt
+move-reached b (ruleLine {v = v} {p = p} l e) = arms-on p b ((code "r", some (State.word (bytes "ule ") (State.operand (Around.head (Around.first (Around.line v)))))) ∷ (code "w", some (State.word (bytes "ish ") (State.wish v []))) ∷ [])
+    (word {w = bytes "ule "} (omega arith) (rw append-snoc (operand (head (first (line l e))))), (wish-begun l, tt))
+move-reached b (wishLine {v = v} {p = p} l) = arms-on p b ((code "w", some (State.word (bytes "ish ") (State.wish v []))) ∷ []) (wish-begun l, tt)
+move-reached b (spaced {k = k} {d = d} {p = p} h i) = arms-on p b ((code " ", some (State.operand k)) ∷ operandArms k) (operand i, operand-arms k d p h)
+move-reached b (operand {k = k} {d = d} {p = p} h) = arms-on p b (operandArms k) (operand-arms k d p h)
+move-reached b (after {a = a} {x = x} {p = p} {s = s} h w) = arms-on (p ++ s) b ((code " ", some (State.sign a x)) ∷ (code "\n", fed (outside a) (joinedOr a x)) ∷ signArms a x) (sign h w, (fed-reached (join h w), subst (λ q. Arms q (signArms a x)) (append-nil (p ++ s)) (sign-arms h w Gap.none)))
+move-reached b (sign {a = a} {x = x} {p = p} {s = s} h w) = arms-on (p ++ s ++ bytes " ") b (signArms a x) (sign-arms h w Gap.space)
+move-reached b (wish {v = v} {w = w} {p = p} h i) = arms-on (p ++ bytes " ") b ((code "s", some (State.digits (Slot.literal v w false))) ∷ (code "!", some (State.word (bytes "s") (State.digits (Slot.literal v w true)))) ∷ [])
+    (digits (rw append-snoc (literal false h i)), (word {w = bytes "s"} (omega arith) (digits (simp append-assoc (literal true h i))), tt))
+move-reached b (ended {v = v} {w = w} {p = p} u h i) = arms-on p b ((code " ", when (ltb (length w) mostLiterals) (State.wish v w)) ∷ (code "\n", some (State.wishLine (addWish v w))) ∷ [])
+    (if-when (λ to. Reached to (p ++ bytes " ")) (ltb (length w) mostLiterals) (State.wish v w) (λ e. wish u (ltb-true (length w) mostLiterals e)), (wishLine (rw (u .text) (wish-added (u .are) w (h, i, u .literals))), tt))
+
+second-steps : (b : ℕ) (slot : Slot) (n : ℕ) (p : List ℕ) → Asked slot p → Among 9 n → IfSome (λ to. Reached to (p ++ digit n ∷ [] ++ b ∷ [])) (step (State.second slot n) b)
+unfolding step
+second-steps b slot n p h (i, j) = if-cond (λ to. Reached to (p ++ digit n ∷ [] ++ b ∷ [])) (isDigit b) (some (numberDone slot (n * 10 + digitOf b))) (move (numberDone slot n) b)
+    (λ e.
+    let (u, l) = digit-byte b e in
+    rw append-snoc (subst (λ s. Reached (numberDone slot (n * 10 + digitOf b)) (p ++ s)) (two-digits n b i j u l) (number-done (n * 10 + digitOf b) h (λ z. omega arith) (omega arith))))
+    (λ e. subst (λ s. IfSome (λ to. Reached to (p ++ s ++ b ∷ [])) (move (numberDone slot n) b)) (one-digit n j) (move-reached b (number-done n h (λ z. i) (omega arith))))
+
+step-reached : (b : ℕ) {st : State} {p : List ℕ} → Reached st p → IfSome (λ to. Reached to (p ++ b ∷ [])) (step st b)
+unfolding step
+step-reached b (second {slot = slot} {n = n} {p = p} h i) = second-steps b slot n p h i
+step-reached b (word {w = w} {st = st} {p = p} h r) = word-moves b w st p r
+step-reached b (digits h) = move-reached b (digits h)
+step-reached b (ruleLine l e) = move-reached b (ruleLine l e)
+step-reached b (wishLine l) = move-reached b (wishLine l)
+step-reached b (spaced h i) = move-reached b (spaced h i)
+step-reached b (operand h) = move-reached b (operand h)
+step-reached b (after h w) = move-reached b (after h w)
+step-reached b (sign h w) = move-reached b (sign h w)
+step-reached b (wish h i) = move-reached b (wish h i)
+step-reached b (ended u h i) = move-reached b (ended u h i)
+
+-- ---- the whole
+
+legal-stuck {ℓ} : {A : Type ℓ} {v : Typed} {n : ℕ} → stuck n ≡ legal v → A
+legal-stuck e = let z : _≡_ {A = ℕ} 0 1 = cc in absurd (omega arith)
+
+end-legal : {st : State} {p : List ℕ} (v : Typed) → Reached st p → atEnd st ≡ legal v → Legal v p
+unfolding atEnd
+end-legal v (ruleLine {v = u} {p = p} l i) e = let g : u ≡ v = cc in subst (λ u. Legal u p) g l
+end-legal v (wishLine {v = u} {p = p} l) e = let g : u ≡ v = cc in subst (λ u. Legal u p) g l
+end-legal v (word h r) e = legal-stuck e
+end-legal v (digits h) e = legal-stuck e
+end-legal v (second h i) e = legal-stuck e
+end-legal v (spaced h i) e = legal-stuck e
+end-legal v (operand h) e = legal-stuck e
+end-legal v (after h w) e = legal-stuck e
+end-legal v (sign h w) e = legal-stuck e
+end-legal v (wish h i) e = legal-stuck e
+end-legal v (ended u h i) e = legal-stuck e
+
+pub reached-legal : (s : List ℕ) (st : State) (p : List ℕ) (v : Typed) → Reached st p → walk st s ≡ legal v → Legal v (p ++ s)
+unfolding walk
+reached-legal [] st p v r e = rw append-nil (end-legal v r e)
+reached-legal (b ∷ s) st p v r e = go (step st b) (step-reached b r) e (reached-legal s)
+  where
+    go : (o : Option State) → IfSome (λ to. Reached to (p ++ b ∷ [])) o → goOn o (suc (length s)) (λ st. walk st s) ≡ legal v → ((st : State) (p : List ℕ) (v : Typed) → Reached st p → walk st s ≡ legal v → Legal v (p ++ s)) → Legal v (p ++ b ∷ s)
+    go none h e more = legal-stuck e
+    go (some to) h e more = rw append-snoc at (more to (p ++ b ∷ []) v h e)
+
+pub walk-legal : (s : List ℕ) (v : Typed) → walk start s ≡ legal v → Legal v s
+walk-legal s v e = reached-legal s start [] v start-reached e
