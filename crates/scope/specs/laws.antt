@@ -20,3 +20,4 @@ pub mod TypedTruths
 pub mod Walked
 pub mod TextReads
 pub mod Reached
+pub mod Completed

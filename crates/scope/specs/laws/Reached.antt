@@ -180,27 +180,27 @@ number-done n (literal {w = w} minus u j) h i = ended (literal-added minus n u (
 
 -- ---- one more byte
 
--- what holds of the state that comes next, if any does
-abbrev pub IfSome : (State → Type 0) → Option State → Type 0
-IfSome P none = Unit {0}
-IfSome P (some st) = P st
+-- q has come to the state, if there is one
+abbrev pub Next : (q : List ℕ) → Option State → Type 0
+Next q none = Unit {0}
+Next q (some st) = Reached st q
 
-if-when : (P : State → Type 0) (t : Bool) (st : State) → (t ≡ true → P st) → IfSome P (when t st)
-if-when P true st h = h refl
-if-when P false st h = tt
+next-when : (q : List ℕ) (t : Bool) (st : State) → (t ≡ true → Reached st q) → Next q (when t st)
+next-when q true st h = h refl
+next-when q false st h = tt
 
-if-cond : (P : State → Type 0) (t : Bool) (o q : Option State) → (t ≡ true → IfSome P o) → (t ≡ false → IfSome P q) → IfSome P (cond t o q)
-if-cond P true o q f g = f refl
-if-cond P false o q f g = g refl
+next-cond : (q : List ℕ) (t : Bool) (o r : Option State) → (t ≡ true → Next q o) → (t ≡ false → Next q r) → Next q (cond t o r)
+next-cond q true o r f g = f refl
+next-cond q false o r f g = g refl
 
 -- each arm leads on from p, by its own byte
-abbrev Arms : List ℕ → List Arm → Type 0
-Arms p rs = All (λ r. IfSome (λ to. Reached to (p ++ r .0 ∷ [])) (r .1)) rs
+abbrev Arms : (p : List ℕ) → List Arm → Type 0
+Arms p rs = All (λ r. Next (p ++ r .0 ∷ []) (r .1)) rs
 
-arms-on : (p : List ℕ) (b : ℕ) (rs : List Arm) → Arms p rs → IfSome (λ to. Reached to (p ++ b ∷ [])) (on b rs)
+arms-on : (p : List ℕ) (b : ℕ) (rs : List Arm) → Arms p rs → Next (p ++ b ∷ []) (on b rs)
 arms-on p b [] h = tt
-arms-on p b (r ∷ rs) h = if-cond (λ to. Reached to (p ++ b ∷ [])) (eqb b (r .0)) (r .1) (on b rs)
-    (λ e. subst (λ c. IfSome (λ to. Reached to (p ++ c ∷ [])) (r .1)) (sym (eqb-true b (r .0) e)) (h .0))
+arms-on p b (r ∷ rs) h = next-cond (p ++ b ∷ []) (eqb b (r .0)) (r .1) (on b rs)
+    (λ e. subst (λ c. Next (p ++ c ∷ []) (r .1)) (sym (eqb-true b (r .0) e)) (h .0))
     (λ e. arms-on p b rs (h .1))
 
 -- ---- an operand
@@ -215,22 +215,19 @@ before-nested (head b) = before-nested b
 before-nested (amp b w g h) = before-nested b
 before-nested (bang b g) = omega (arith, before-nested b)
 
-if-nested : (P : State → Type 0) (k : Around factor) (st : State) (d : ℕ) (p : List ℕ) → Before factor k d p → ((e : ℕ) → Before factor k (suc e) p → P st) → IfSome P (nestedMore k st)
+next-nested : (q : List ℕ) (k : Around factor) (st : State) (d : ℕ) (p : List ℕ) → Before factor k d p → ((e : ℕ) → Before factor k (suc e) p → Reached st q) → Next q (nestedMore k st)
 unfolding nestedMore
-if-nested P k st zero p b f = if-when P (ltb (nested k) mostNested) st (λ e. absurd (omega (arith, ltb-true (nested k) mostNested e, before-nested b)))
-if-nested P k st (suc d) p b f = if-when P (ltb (nested k) mostNested) st (λ e. f d b)
+next-nested q k st zero p b f = next-when q (ltb (nested k) mostNested) st (λ e. absurd (omega (arith, ltb-true (nested k) mostNested e, before-nested b)))
+next-nested q k st (suc d) p b f = next-when q (ltb (nested k) mostNested) st (λ e. f d b)
 
 operand-arms : (k : Around factor) (d : ℕ) (p : List ℕ) → Before factor k d p → Arms p (operandArms k)
-operand-arms k d p b = (
-  digits (switch b),
-  (
-    digits (fault b),
-    (
-      if-nested (λ to. Reached to (p ++ bytes "!")) k (State.spaced (Around.bang k)) d p b (λ e c. spaced (bang c Gap.none) (rw append-snoc (bang c Gap.space))),
-      (if-nested (λ to. Reached to (p ++ bytes "(")) k (State.spaced (Around.head (Around.first (Around.bracket k)))) d p b (λ e c. spaced (head (first (bracket c Gap.none))) (rw append-snoc (head (first (bracket c Gap.space))))), tt),
-    ),
-  ),
-)
+operand-arms k d p b = (digits (switch b), (digits (fault b), (negated, (bracketed, tt))))
+  where
+    negated : Next (p ++ bytes "!") (nestedMore k (State.spaced (Around.bang k)))
+    negated = next-nested (p ++ bytes "!") k (State.spaced (Around.bang k)) d p b (λ e c. spaced (bang c Gap.none) (rw append-snoc (bang c Gap.space)))
+
+    bracketed : Next (p ++ bytes "(") (nestedMore k (State.spaced (Around.head (Around.first (Around.bracket k)))))
+    bracketed = next-nested (p ++ bytes "(") k (State.spaced (Around.head (Around.first (Around.bracket k)))) d p b (λ e c. spaced (head (first (bracket c Gap.none))) (rw append-snoc (head (first (bracket c Gap.space)))))
 
 -- ---- a sign after an operand
 
@@ -242,11 +239,11 @@ join : {a : Around ands} {d : ℕ} {x : Formula} {p s : List ℕ} → Before and
 join (first b) w = joined b (Written.single w)
 join {s} (bar {p = p} {s = r} {g = g} {h = h} b y i j) w = rw (inside p r g (code "|" ∷ h) s) (joined b (Written.or y i j w))
 
-fed-reached : {o : Around ors} {d : ℕ} {x : Formula} {q : List ℕ} → Joined o d x q → IfSome (λ to. Reached to (q ++ feed)) (fed o x)
+fed-reached : {o : Around ors} {d : ℕ} {x : Formula} {q : List ℕ} → Joined o d x q → Next (q ++ feed) (fed o x)
 fed-reached {x} (joined {s = s} (line l e) w) = ruleLine (rule-added l x s e w) e
 fed-reached (joined (bracket b g) w) = tt
 
-closed-reached : {o : Around ors} {d : ℕ} {x : Formula} {q g : List ℕ} → Joined o d x q → Gap g → IfSome (λ to. Reached to (q ++ g ++ bytes ")")) (closed o x)
+closed-reached : {o : Around ors} {d : ℕ} {x : Formula} {q g : List ℕ} → Joined o d x q → Gap g → Next (q ++ g ++ bytes ")") (closed o x)
 closed-reached (joined (line l e) w) i = tt
 closed-reached {g} (joined {s = s} (bracket {p = p} {g = h} b j) w) i = rw (inside p (code "(" ∷ h) s g (bytes ")")) (operand-done b (Written.bracket j w i))
 
@@ -264,26 +261,26 @@ wish-begun {v} {p} l =
     let e : p ++ bytes "wish" ++ bytes " " ≡ p ++ bytes "w" ++ bytes "ish " = simp append-assoc in
     word {w = bytes "ish "} (omega arith) (subst (Reached (State.wish v [])) e (wish record { lines = p; are = l; literals = tt; text = refl } (omega arith)))
 
-word-moves : (b : ℕ) (w : List ℕ) (st : State) (p : List ℕ) → Reached st (p ++ w) → IfSome (λ to. Reached to (p ++ b ∷ [])) (move (State.word w st) b)
+word-moves : (b : ℕ) (w : List ℕ) (st : State) (p : List ℕ) → Reached st (p ++ w) → Next (p ++ b ∷ []) (move (State.word w st) b)
 unfolding move
 word-moves b [] st p r = tt
 word-moves b (c ∷ []) st p r = arms-on p b ((c, some st) ∷ []) (r, tt)
 word-moves b (c ∷ d ∷ w) st p r = arms-on p b ((c, some (State.word (d ∷ w) st)) ∷ []) (word (omega arith) (rw append-snoc r), tt)
 
-digit-moves : (b : ℕ) (slot : Slot) (p : List ℕ) → Asked slot p → IfSome (λ to. Reached to (p ++ b ∷ [])) (move (State.digits slot) b)
-unfolding move decimal
-digit-moves b slot p h = if-cond P (eqb b (code "0")) (when (zeroOk slot) (numberDone slot 0)) (when (isDigit b) (State.second slot (digitOf b)))
-    (λ e. if-when P (zeroOk slot) (numberDone slot 0) (λ z. rw (eqb-true b (code "0") e) (number-done 0 h (λ f. clash z f) (omega arith))))
-    (λ e. if-when P (isDigit b) (State.second slot (digitOf b)) (λ z.
-    let (i, j) = digit-byte b z in
-    let ne : b ≢ code "0" = eqb-false b (code "0") e in
+digit-reached : (b : ℕ) (slot : Slot) (p : List ℕ) → Asked slot p → b ≢ code "0" → isDigit b ≡ true → Reached (State.second slot (digitOf b)) (p ++ b ∷ [])
+digit-reached b slot p h ne e =
+    let (i, j) = digit-byte b e in
     let d : digit (digitOf b) ≡ b = omega arith in
-    subst (λ c. Reached (State.second slot (digitOf b)) (p ++ c ∷ [])) d (second h (omega arith, omega arith))))
-  where
-    P : State → Type 0
-    P to = Reached to (p ++ b ∷ [])
+    subst (λ c. Reached (State.second slot (digitOf b)) (p ++ c ∷ [])) d (second h (omega arith, omega arith))
 
-move-reached : (b : ℕ) {st : State} {p : List ℕ} → Reached st p → IfSome (λ to. Reached to (p ++ b ∷ [])) (move st b)
+-- a 0 is all of its number
+digit-moves : (b : ℕ) (slot : Slot) (p : List ℕ) → Asked slot p → Next (p ++ b ∷ []) (move (State.digits slot) b)
+unfolding move decimal
+digit-moves b slot p h = next-cond (p ++ b ∷ []) (eqb b (code "0")) (when (zeroOk slot) (numberDone slot 0)) (when (isDigit b) (State.second slot (digitOf b)))
+    (λ e. next-when (p ++ b ∷ []) (zeroOk slot) (numberDone slot 0) (λ z. rw (eqb-true b (code "0") e) (number-done 0 h (λ f. clash z f) (omega arith))))
+    (λ e. next-when (p ++ b ∷ []) (isDigit b) (State.second slot (digitOf b)) (digit-reached b slot p h (eqb-false b (code "0") e)))
+
+move-reached : (b : ℕ) {st : State} {p : List ℕ} → Reached st p → Next (p ++ b ∷ []) (move st b)
 unfolding move
 move-reached b (word {w = w} {st = st} {p = p} h r) = word-moves b w st p r
 move-reached b (digits {slot = slot} {p = p} h) = digit-moves b slot p h
@@ -298,17 +295,22 @@ move-reached b (sign {a = a} {x = x} {p = p} {s = s} h w) = arms-on (p ++ s ++ b
 move-reached b (wish {v = v} {w = w} {p = p} h i) = arms-on (p ++ bytes " ") b ((code "s", some (State.digits (Slot.literal v w false))) ∷ (code "!", some (State.word (bytes "s") (State.digits (Slot.literal v w true)))) ∷ [])
     (digits (rw append-snoc (literal false h i)), (word {w = bytes "s"} (omega arith) (digits (simp append-assoc (literal true h i))), tt))
 move-reached b (ended {v = v} {w = w} {p = p} u h i) = arms-on p b ((code " ", when (ltb (length w) mostLiterals) (State.wish v w)) ∷ (code "\n", some (State.wishLine (addWish v w))) ∷ [])
-    (if-when (λ to. Reached to (p ++ bytes " ")) (ltb (length w) mostLiterals) (State.wish v w) (λ e. wish u (ltb-true (length w) mostLiterals e)), (wishLine (rw (u .text) (wish-added (u .are) w (h, i, u .literals))), tt))
+    (next-when (p ++ bytes " ") (ltb (length w) mostLiterals) (State.wish v w) (λ e. wish u (ltb-true (length w) mostLiterals e)), (wishLine (rw (u .text) (wish-added (u .are) w (h, i, u .literals))), tt))
 
-second-steps : (b : ℕ) (slot : Slot) (n : ℕ) (p : List ℕ) → Asked slot p → Among 9 n → IfSome (λ to. Reached to (p ++ digit n ∷ [] ++ b ∷ [])) (step (State.second slot n) b)
-unfolding step
-second-steps b slot n p h (i, j) = if-cond (λ to. Reached to (p ++ digit n ∷ [] ++ b ∷ [])) (isDigit b) (some (numberDone slot (n * 10 + digitOf b))) (move (numberDone slot n) b)
-    (λ e.
-    let (u, l) = digit-byte b e in
-    rw append-snoc (subst (λ s. Reached (numberDone slot (n * 10 + digitOf b)) (p ++ s)) (two-digits n b i j u l) (number-done (n * 10 + digitOf b) h (λ z. omega arith) (omega arith))))
-    (λ e. subst (λ s. IfSome (λ to. Reached to (p ++ s ++ b ∷ [])) (move (numberDone slot n) b)) (one-digit n j) (move-reached b (number-done n h (λ z. i) (omega arith))))
+-- a second digit, or the number is complete
+module _ (b : ℕ) (slot : Slot) (n : ℕ) (p : List ℕ) (h : Asked slot p) (i : Among 9 n) where
+  second-reached : isDigit b ≡ true → Reached (numberDone slot (n * 10 + digitOf b)) (p ++ digit n ∷ [] ++ b ∷ [])
+  second-reached e =
+      let (u, l) = digit-byte b e in
+      rw append-snoc (subst (λ s. Reached (numberDone slot (n * 10 + digitOf b)) (p ++ s)) (two-digits n b (i .0) (i .1) u l) (number-done (n * 10 + digitOf b) h (λ z. omega arith) (omega arith)))
 
-step-reached : (b : ℕ) {st : State} {p : List ℕ} → Reached st p → IfSome (λ to. Reached to (p ++ b ∷ [])) (step st b)
+  second-steps : Next (p ++ digit n ∷ [] ++ b ∷ []) (step (State.second slot n) b)
+  unfolding step
+  second-steps = next-cond (p ++ digit n ∷ [] ++ b ∷ []) (isDigit b) (some (numberDone slot (n * 10 + digitOf b))) (move (numberDone slot n) b)
+      second-reached
+      (λ e. subst (λ s. Next (p ++ s ++ b ∷ []) (move (numberDone slot n) b)) (one-digit n (i .1)) (move-reached b (number-done n h (λ z. i .0) (omega arith))))
+
+pub step-reached : (b : ℕ) {st : State} {p : List ℕ} → Reached st p → Next (p ++ b ∷ []) (step st b)
 unfolding step
 step-reached b (second {slot = slot} {n = n} {p = p} h i) = second-steps b slot n p h i
 step-reached b (word {w = w} {st = st} {p = p} h r) = word-moves b w st p r
@@ -324,7 +326,7 @@ step-reached b (ended u h i) = move-reached b (ended u h i)
 
 -- ---- the whole
 
-legal-stuck {ℓ} : {A : Type ℓ} {v : Typed} {n : ℕ} → stuck n ≡ legal v → A
+pub legal-stuck {ℓ} : {A : Type ℓ} {v : Typed} {n : ℕ} → stuck n ≡ legal v → A
 legal-stuck e = let z : _≡_ {A = ℕ} 0 1 = cc in absurd (omega arith)
 
 end-legal : {st : State} {p : List ℕ} (v : Typed) → Reached st p → atEnd st ≡ legal v → Legal v p
@@ -346,7 +348,7 @@ unfolding walk
 reached-legal [] st p v r e = rw append-nil (end-legal v r e)
 reached-legal (b ∷ s) st p v r e = go (step st b) (step-reached b r) e (reached-legal s)
   where
-    go : (o : Option State) → IfSome (λ to. Reached to (p ++ b ∷ [])) o → goOn o (suc (length s)) (λ st. walk st s) ≡ legal v → ((st : State) (p : List ℕ) (v : Typed) → Reached st p → walk st s ≡ legal v → Legal v (p ++ s)) → Legal v (p ++ b ∷ s)
+    go : (o : Option State) → Next (p ++ b ∷ []) o → goOn o (suc (length s)) (λ st. walk st s) ≡ legal v → ((st : State) (p : List ℕ) (v : Typed) → Reached st p → walk st s ≡ legal v → Legal v (p ++ s)) → Legal v (p ++ b ∷ s)
     go none h e more = legal-stuck e
     go (some to) h e more = rw append-snoc at (more to (p ++ b ∷ []) v h e)
 
