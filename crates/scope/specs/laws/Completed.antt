@@ -1,20 +1,66 @@
--- What is read of a typed text, as far as it goes on, can be completed to a legal one. Assumes nothing.
-use Prim.Native.Nat.{ℕ, zero, suc, _+_, _-_, _*_, _≤_}
+-- A typed text that is read to its end is legal; one that is not is, up to where it stops, the beginning of a legal one. Assumes nothing.
+use Prim.Native.Nat.{ℕ, suc, _+_, _-_, _*_, _≤_}
 use Prim.Native.Char.{code}
 use native.Mathlib.Omega.{arith}
-use mathlib.Core.Bool.{Bool, true, false}
+use mathlib.Core.Bool.{false}
 use mathlib.Core.List.{List, [], _∷_, _++_, append-nil}
 use mathlib.Core.Option.{Option, none, some}
-use mathlib.Core.Path.{_≡_, refl, sym, ap, subst, _∙_}
+use mathlib.Core.Path.{_≡_, refl, ap, subst}
 use lib.ListN.{length, take}
-use lib.Seq.{append-snoc, take-nil}
+use lib.Seq.{append-snoc}
 use borrow.Author.Tests.{eq-eqb}
 use Rattle.scope.specs.Text.{bytes}
 use Rattle.scope.specs.Sheet.{number, Clause}
 use Rattle.scope.specs.Typed.{Formula, Typed, typed, Level, ors, ands, factor, Legal}
 use Rattle.scope.specs.Texts.{Starts}
 use Rattle.scope.specs.Parsing.{Around, Slot, State, feed, addRule, addWish, operandDone, numberDone, joinedOr, outside, closed, fed, move, step, Outcome, legal, stuck, atEnd, goOn, walk, start}
-use Rattle.scope.specs.laws.Reached.{Reached, Next, start-reached, step-reached, legal-stuck, reached-legal}
+use Rattle.scope.specs.laws.Reached.{Reached, start-reached, Next, step-reached}
+
+-- ---- all the bytes of a text
+
+-- what is told of s, read after p: p and s are legal, or up to the last n bytes they have come to a state
+abbrev Told : (p s : List ℕ) → Outcome → Type 0
+Told p s (legal v) = Legal v (p ++ s)
+Told p s (stuck n) = (n ≤ length s) × (st : State) × Reached st (p ++ take (length s - n) s)
+
+none-left : {st : State} {p : List ℕ} → Reached st p → Told p [] (stuck 0)
+none-left {st} r = (omega arith, st, rw append-nil r)
+
+end-told : (st : State) (p : List ℕ) → Reached st p → Told p [] (atEnd st)
+unfolding atEnd
+end-told (State.ruleLine v) p (Reached.ruleLine l e) = rw append-nil l
+end-told (State.wishLine v) p (Reached.wishLine l) = rw append-nil l
+end-told (State.word w st) p r = none-left r
+end-told (State.digits slot) p r = none-left r
+end-told (State.second slot n) p r = none-left r
+end-told (State.spaced k) p r = none-left r
+end-told (State.operand k) p r = none-left r
+end-told (State.after a x) p r = none-left r
+end-told (State.sign a x) p r = none-left r
+end-told (State.wish v w) p r = none-left r
+end-told (State.ended v w) p r = none-left r
+
+told-cons : (b : ℕ) (p s : List ℕ) (o : Outcome) → Told (p ++ b ∷ []) s o → Told p (b ∷ s) o
+told-cons b p s (legal v) h = rw append-snoc at h
+told-cons b p s (stuck n) (l, st, r) =
+    let i : suc (length s) - n ≡ suc (length s - n) = omega arith in
+    (omega arith, st, rw i (rw append-snoc at r))
+
+walk-told : (s : List ℕ) (st : State) (p : List ℕ) → Reached st p → Told p s (walk st s)
+unfolding walk
+walk-told [] st p r = end-told st p r
+walk-told (b ∷ s) st p r = go (step st b) (step-reached b st p r) (walk-told s)
+  where
+    go : (o : Option State) → Next (p ++ b ∷ []) o → ((st : State) (p : List ℕ) → Reached st p → Told p s (walk st s)) → Told p (b ∷ s) (goOn o (suc (length s)) (λ st. walk st s))
+    go none h more =
+        let i : suc (length s) - suc (length s) ≡ 0 = omega arith in
+        (omega arith, st, rw i (rw append-nil r))
+    go (some to) h more = told-cons b p s (walk to s) (more to (p ++ b ∷ []) h)
+
+pub walk-legal : (s : List ℕ) (v : Typed) → walk start s ≡ legal v → Legal v s
+walk-legal s v e = subst (Told [] s) e (walk-told s start [] start-reached)
+
+-- ---- what comes to a state goes on to an end
 
 -- a state from which some bytes lead to the end
 abbrev Ends : State → Type 0
@@ -47,7 +93,7 @@ around-ends (Around.head a) = λ x. around-ends a x
 around-ends (Around.amp y a) = λ x. around-ends a (Formula.and y x)
 around-ends (Around.bang k) = λ x. around-ends k (Formula.not x)
 
--- ---- after a number: each has two digits
+-- ---- a number: a second digit makes it complete, whatever it is for
 
 faults-end : (a n : ℕ) → Ends (numberDone (Slot.faults a) n)
 unfolding numberDone atEnd walk
@@ -97,39 +143,12 @@ reached-ends (Reached.sign {a = a} {x = x} h w) = ends-by (State.sign a x) (Stat
 reached-ends (Reached.wish {v = v} {w = w} h i) = ends-by (State.wish v w) (State.digits (Slot.literal v w false)) (code "s") refl (slot-ends (Slot.literal v w false))
 reached-ends (Reached.ended {v = v} {w = w} u h i) = wish-ends v w
 
-reached-starts : (st : State) (p : List ℕ) → Reached st p → Starts p
-reached-starts st p r = let (q, v, e) = reached-ends r in (p ++ q, v, (q, refl), reached-legal q st p v r e)
-
 -- ---- where no byte goes on
 
-end-stuck : (st : State) (n : ℕ) → atEnd st ≡ stuck n → n ≡ 0
-unfolding atEnd
-end-stuck (State.ruleLine v) n e = legal-stuck (sym e)
-end-stuck (State.wishLine v) n e = legal-stuck (sym e)
-end-stuck (State.word w st) n e = cc
-end-stuck (State.digits slot) n e = cc
-end-stuck (State.second slot m) n e = cc
-end-stuck (State.spaced k) n e = cc
-end-stuck (State.operand k) n e = cc
-end-stuck (State.after a x) n e = cc
-end-stuck (State.sign a x) n e = cc
-end-stuck (State.wish v w) n e = cc
-end-stuck (State.ended v w) n e = cc
-
-reached-stuck : (s : List ℕ) (st : State) (p : List ℕ) (n : ℕ) → Reached st p → walk st s ≡ stuck n → (n ≤ length s) × Starts (p ++ take (length s - n) s)
-unfolding walk
-reached-stuck [] st p n r e = (omega (arith, end-stuck st n e), subst Starts (sym (ap (λ t. p ++ t) (take-nil (0 - n)) ∙ append-nil p)) (reached-starts st p r))
-reached-stuck (b ∷ s) st p n r e = go (step st b) (step-reached b r) e (reached-stuck s)
-  where
-    go : (o : Option State) → Next (p ++ b ∷ []) o → goOn o (suc (length s)) (λ st. walk st s) ≡ stuck n → ((st : State) (p : List ℕ) (n : ℕ) → Reached st p → walk st s ≡ stuck n → (n ≤ length s) × Starts (p ++ take (length s - n) s)) → (n ≤ suc (length s)) × Starts (p ++ take (suc (length s) - n) (b ∷ s))
-    go none h e more =
-        let g : suc (length s) ≡ n = cc in
-        let z : suc (length s) - n ≡ 0 = omega arith in
-        (omega arith, rw z (rw append-nil (reached-starts st p r)))
-    go (some to) h e more =
-        let (l, t) = more to (p ++ b ∷ []) n h e in
-        let i : suc (length s) - n ≡ suc (length s - n) = omega arith in
-        (omega arith, rw i (rw append-snoc at t))
+reached-starts : (st : State) (p : List ℕ) → Reached st p → Starts p
+reached-starts st p r = let (q, v, e) = reached-ends r in (p ++ q, v, (q, refl), subst (Told p q) e (walk-told q st p r))
 
 pub walk-stuck : (s : List ℕ) (n : ℕ) → walk start s ≡ stuck n → (n ≤ length s) × Starts (take (length s - n) s)
-walk-stuck s n e = reached-stuck s start [] n start-reached e
+walk-stuck s n e =
+    let (l, st, r) = subst (Told [] s) e (walk-told s start [] start-reached) in
+    (l, reached-starts st (take (length s - n) s) r)

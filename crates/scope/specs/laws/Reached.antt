@@ -1,12 +1,12 @@
--- What stands before each place of a typed text that is read byte by byte; so a text that is read to its end is legal. Assumes nothing.
-use Prim.Native.Nat.{ℕ, zero, suc, _+_, _-_, _*_, _/_, _%_, _≤_, _<_}
+-- What stands before each place of a typed text that is read byte by byte. Assumes nothing.
+use Prim.Native.Nat.{ℕ, zero, suc, _+_, _*_, _/_, _%_, _≤_, _<_}
 use Prim.Native.Char.{code}
 use native.Mathlib.Omega.{arith}
-use mathlib.Core.Bool.{Bool, true, false, cond, _&&_}
+use mathlib.Core.Bool.{Bool, true, false, cond}
 use mathlib.Core.List.{List, [], _∷_, _++_, append-assoc, append-nil}
 use mathlib.Core.Logic.{_≢_}
 use mathlib.Core.Option.{Option, none, some}
-use mathlib.Core.Path.{_≡_, refl, sym, ap, ap₂, subst, _∙_}
+use mathlib.Core.Path.{_≡_, refl, sym, ap, subst, _∙_}
 use lib.Dec.{eqb, leb, ltb}
 use lib.ListN.{length}
 use lib.Seq.{append-snoc}
@@ -15,15 +15,27 @@ use Rattle.scope.specs.Text.{bytes}
 use Rattle.scope.specs.Sheet.{Number, number, Clause, digit, decimal, All, Among, mostLiterals}
 use Rattle.scope.specs.Reading.{when}
 use Rattle.scope.specs.Typed.{Formula, Typed, typed, Gap, Level, ors, ands, factor, Written, RuleLines, Writable, Legal, mostNested, mostNumber, numeral, literalBytes, literalsBytes, wishLines}
-use Rattle.scope.specs.Parsing.{Around, nested, Slot, State, feed, addRule, addWish, operandDone, numberDone, joinedOr, outside, closed, fed, isDigit, digitOf, zeroOk, Arm, on, nestedMore, operandArms, signArms, move, step, Outcome, legal, stuck, atEnd, goOn, walk, start}
+use Rattle.scope.specs.Parsing.{Around, nested, Slot, State, feed, addRule, addWish, operandDone, numberDone, joinedOr, outside, closed, fed, isDigit, digitOf, zeroOk, Arm, on, nestedMore, operandArms, signArms, move, step, start}
 use Rattle.scope.specs.laws.Tests.{clash, both}
 use Rattle.scope.specs.laws.Fields.{length-snoc}
 use Rattle.scope.specs.laws.Steps.{all-snoc}
 
--- ---- one more line, after the others
+-- ---- a text so far, and what is put behind it
 
-regroup : (p s t u : List ℕ) → p ++ s ++ t ++ u ≡ p ++ (s ++ (t ++ u))
-regroup p s t u = simp append-assoc
+rule-behind : (h t r s : List ℕ) → h ++ code "\n" ∷ t ++ [] ++ r ++ s ++ feed ≡ h ++ code "\n" ∷ (t ++ (r ++ s ++ feed)) ++ []
+rule-behind h t r s = simp (append-assoc, append-nil)
+
+wish-behind : (p s t u : List ℕ) → p ++ s ++ t ++ u ≡ p ++ (s ++ (t ++ u))
+wish-behind p s t u = simp append-assoc
+
+literal-behind : (p s t u n : List ℕ) → p ++ (s ++ t) ++ u ++ n ≡ p ++ (s ++ (t ++ (u ++ n)))
+literal-behind p s t u n = simp append-assoc
+
+-- a formula that is complete with its last part
+formula-behind : (p s g u t : List ℕ) → p ++ s ++ g ++ u ++ t ≡ p ++ (s ++ g ++ u ++ t)
+formula-behind p s g u t = simp append-assoc
+
+-- ---- one more line, after the others
 
 rules-snoc : {xs : List Formula} {x : Formula} {t s : List ℕ} → RuleLines xs t → Written ors mostNested x s → RuleLines (xs ++ x ∷ []) (t ++ (bytes "rule " ++ s ++ feed))
 rules-snoc RuleLines.none w = RuleLines.next w RuleLines.none
@@ -57,7 +69,7 @@ two-digits n b h i p q =
 
 -- ---- what stands before a place
 
--- p and then a formula of the context's level, at most d deep; the spaces that may stand before the formula are in p
+-- after p comes a formula at the level of the context, with brackets and nots at most d deep; a space before it is in p
 pub data Before : (l : Level) → Around l → (d : ℕ) → (p : List ℕ) → Type 0 where
   line : {v : Typed} {p : List ℕ} → Legal v p → v .wishes ≡ [] → Before ors (Around.line v) mostNested (p ++ bytes "rule ")
   bracket : {k : Around factor} {d : ℕ} {p g : List ℕ} → Before factor k (suc d) p → Gap g → Before ors (Around.bracket k) d (p ++ code "(" ∷ g)
@@ -67,17 +79,18 @@ pub data Before : (l : Level) → Around l → (d : ℕ) → (p : List ℕ) → 
   amp : {a : Around ands} {d : ℕ} {x : Formula} {p s g h : List ℕ} → Before ands a d p → Written ands d x s → Gap g → Gap h → Before factor (Around.amp x a) d (p ++ s ++ g ++ code "&" ∷ h)
   bang : {k : Around factor} {d : ℕ} {p g : List ℕ} → Before factor k (suc d) p → Gap g → Before factor (Around.bang k) d (p ++ code "!" ∷ g)
 
--- p is the lines of v, and then a wish with these literals, so far
+-- p is the lines of v, and of one wish more these literals
 pub record Wishing (v : Typed) (w : Clause) (p : List ℕ) : Type 0 where
   pub lines : List ℕ
   pub are : Legal v lines
   pub literals : All (λ x. Among mostNumber (x .size)) w
   pub text : p ≡ lines ++ (bytes "wish" ++ literalsBytes w)
 
+-- what a literal has before its number
 abbrev pub marked : Bool → List ℕ
 marked minus = cond minus (bytes "!s") (bytes "s")
 
--- p and then a number
+-- after p comes a number
 pub data Asked : Slot → (p : List ℕ) → Type 0 where
   switches : Asked Slot.switches (bytes "switches ")
   faults : {a : ℕ} → a ≤ mostNumber → Asked (Slot.faults a) (bytes "switches " ++ numeral a ++ code "\n" ∷ bytes "faults ")
@@ -85,6 +98,7 @@ pub data Asked : Slot → (p : List ℕ) → Type 0 where
   fault : {k : Around factor} {d : ℕ} {p : List ℕ} → Before factor k d p → Asked (Slot.fault k) (p ++ bytes "f")
   literal : {v : Typed} {w : Clause} {p : List ℕ} (minus : Bool) → Wishing v w p → length w < mostLiterals → Asked (Slot.literal v w minus) (p ++ code " " ∷ marked minus)
 
+-- p has come to the state; a word has bytes left, so that it can be completed
 pub data Reached : State → (p : List ℕ) → Type 0 where
   word : {w : List ℕ} {st : State} {p : List ℕ} → 1 ≤ length w → Reached st (p ++ w) → Reached (State.word w st) p
   digits : {slot : Slot} {p : List ℕ} → Asked slot p → Reached (State.digits slot) p
@@ -111,9 +125,6 @@ head-legal {a} {n} h i = record { switches = h; faults = i; wishes = tt; rules =
 abbrev headed : Typed → List ℕ
 headed v = bytes "switches " ++ numeral (v .switches) ++ code "\n" ∷ bytes "faults " ++ numeral (v .faults)
 
-line-behind : (h t r s : List ℕ) → h ++ code "\n" ∷ t ++ [] ++ r ++ s ++ feed ≡ h ++ code "\n" ∷ (t ++ (r ++ s ++ feed)) ++ []
-line-behind h t r s = simp (append-assoc, append-nil)
-
 module _ {v : Typed} {p : List ℕ} (l : Legal v p) where
   rule-added : (x : Formula) (s : List ℕ) → v .wishes ≡ [] → Written ors mostNested x s → Legal (addRule v x) (p ++ bytes "rule " ++ s ++ feed)
   unfolding wishLines
@@ -124,7 +135,7 @@ module _ {v : Typed} {p : List ℕ} (l : Legal v p) where
     rules = l .rules ++ (bytes "rule " ++ s ++ feed);
     written = rules-snoc (l .written) w;
     text = ap (λ q. q ++ bytes "rule " ++ s ++ feed) (l .text ∙ ap (λ ws. headed v ++ code "\n" ∷ l .rules ++ wishLines ws) e)
-        ∙ line-behind (headed v) (l .rules) (bytes "rule ") s
+        ∙ rule-behind (headed v) (l .rules) (bytes "rule ") s
         ∙ ap (λ ws. headed v ++ code "\n" ∷ (l .rules ++ (bytes "rule " ++ s ++ feed)) ++ wishLines ws) (sym e);
   }
 
@@ -136,19 +147,16 @@ module _ {v : Typed} {p : List ℕ} (l : Legal v p) where
     rules = l .rules;
     written = l .written;
     text = ap (λ q. q ++ (bytes "wish" ++ literalsBytes w) ++ feed) (l .text)
-        ∙ regroup (headed v ++ code "\n" ∷ l .rules) (wishLines (v .wishes)) (bytes "wish" ++ literalsBytes w) feed
+        ∙ wish-behind (headed v ++ code "\n" ∷ l .rules) (wishLines (v .wishes)) (bytes "wish" ++ literalsBytes w) feed
         ∙ ap (λ s. headed v ++ code "\n" ∷ l .rules ++ s) (sym (wishes-snoc (v .wishes) w));
   }
 
 -- ---- an operand is complete
 
-inside : (p s g u t : List ℕ) → p ++ s ++ g ++ u ++ t ≡ p ++ (s ++ g ++ u ++ t)
-inside p s g u t = simp append-assoc
-
 operand-done : {k : Around factor} {d : ℕ} {x : Formula} {p s : List ℕ} → Before factor k d p → Written factor d x s → Reached (operandDone k x) (p ++ s)
 unfolding operandDone
 operand-done (head b) w = after b (Written.alone w)
-operand-done {s} (amp {p = p} {s = r} {g = g} {h = h} b y i j) w = rw (inside p r g (code "&" ∷ h) s) (after b (Written.and y i j w))
+operand-done {s} (amp {p = p} {s = r} {g = g} {h = h} b y i j) w = rw (formula-behind p r g (code "&" ∷ h) s) (after b (Written.and y i j w))
 operand-done {s} (bang {p = p} {g = g} b i) w = rw (append-assoc p (code "!" ∷ g) s) (operand-done b (Written.not i w))
 
 -- ---- a number is complete
@@ -156,9 +164,6 @@ operand-done {s} (bang {p = p} {g = g} b i) w = rw (append-assoc p (code "!" ∷
 mark-bytes : (minus : Bool) (n : ℕ) → literalBytes (number minus n) ≡ marked minus ++ numeral n
 mark-bytes true n = refl
 mark-bytes false n = refl
-
-literal-behind : (p s t u n : List ℕ) → p ++ (s ++ t) ++ u ++ n ≡ p ++ (s ++ (t ++ (u ++ n)))
-literal-behind p s t u n = simp append-assoc
 
 literal-added : {v : Typed} {w : Clause} {p : List ℕ} (minus : Bool) (n : ℕ) → Wishing v w p → Among mostNumber n → Wishing v (w ++ number minus n ∷ []) (p ++ code " " ∷ marked minus ++ numeral n)
 literal-added {w} {p} minus n h i = record {
@@ -170,6 +175,7 @@ literal-added {w} {p} minus n h i = record {
       ∙ ap (λ s. h .lines ++ (bytes "wish" ++ s)) (sym (literals-snoc w (number minus n) ∙ ap (λ s. literalsBytes w ++ code " " ∷ s) (mark-bytes minus n)));
 }
 
+-- only a number of switches or faults may be 0
 number-done : {slot : Slot} {p : List ℕ} (n : ℕ) → Asked slot p → (zeroOk slot ≡ false → 1 ≤ n) → n ≤ mostNumber → Reached (numberDone slot n) (p ++ numeral n)
 unfolding numberDone
 number-done n switches h i = word {w = feed ++ bytes "faults "} (omega arith) (digits (faults i))
@@ -205,6 +211,7 @@ arms-on p b (r ∷ rs) h = next-cond (p ++ b ∷ []) (eqb b (r .0)) (r .1) (on b
 
 -- ---- an operand
 
+-- so what is open around it, and how deep it may go on, make up the most
 before-nested : {l : Level} {k : Around l} {d : ℕ} {p : List ℕ} → Before l k d p → nested k + d ≡ mostNested
 unfolding nested
 before-nested (line l e) = refl
@@ -215,6 +222,7 @@ before-nested (head b) = before-nested b
 before-nested (amp b w g h) = before-nested b
 before-nested (bang b g) = omega (arith, before-nested b)
 
+-- one more bracket or not, if d leaves room for it
 next-nested : (q : List ℕ) (k : Around factor) (st : State) (d : ℕ) (p : List ℕ) → Before factor k d p → ((e : ℕ) → Before factor k (suc e) p → Reached st q) → Next q (nestedMore k st)
 unfolding nestedMore
 next-nested q k st zero p b f = next-when q (ltb (nested k) mostNested) st (λ e. absurd (omega (arith, ltb-true (nested k) mostNested e, before-nested b)))
@@ -231,13 +239,13 @@ operand-arms k d p b = (digits (switch b), (digits (fault b), (negated, (bracket
 
 -- ---- a sign after an operand
 
--- q ends in a formula at the level of `|`, of the context o
+-- q ends in a formula at the level of `|`, with those to its left
 data Joined (o : Around ors) (d : ℕ) (x : Formula) : (q : List ℕ) → Type 0 where
   joined : {p s : List ℕ} → Before ors o d p → Written ors d x s → Joined o d x (p ++ s)
 
 join : {a : Around ands} {d : ℕ} {x : Formula} {p s : List ℕ} → Before ands a d p → Written ands d x s → Joined (outside a) d (joinedOr a x) (p ++ s)
 join (first b) w = joined b (Written.single w)
-join {s} (bar {p = p} {s = r} {g = g} {h = h} b y i j) w = rw (inside p r g (code "|" ∷ h) s) (joined b (Written.or y i j w))
+join {s} (bar {p = p} {s = r} {g = g} {h = h} b y i j) w = rw (formula-behind p r g (code "|" ∷ h) s) (joined b (Written.or y i j w))
 
 fed-reached : {o : Around ors} {d : ℕ} {x : Formula} {q : List ℕ} → Joined o d x q → Next (q ++ feed) (fed o x)
 fed-reached {x} (joined {s = s} (line l e) w) = ruleLine (rule-added l x s e w) e
@@ -245,13 +253,13 @@ fed-reached (joined (bracket b g) w) = tt
 
 closed-reached : {o : Around ors} {d : ℕ} {x : Formula} {q g : List ℕ} → Joined o d x q → Gap g → Next (q ++ g ++ bytes ")") (closed o x)
 closed-reached (joined (line l e) w) i = tt
-closed-reached {g} (joined {s = s} (bracket {p = p} {g = h} b j) w) i = rw (inside p (code "(" ∷ h) s g (bytes ")")) (operand-done b (Written.bracket j w i))
+closed-reached {g} (joined {s = s} (bracket {p = p} {g = h} b j) w) i = rw (formula-behind p (code "(" ∷ h) s g (bytes ")")) (operand-done b (Written.bracket j w i))
 
-join-arms : {o : Around ors} {d : ℕ} {x : Formula} {q g : List ℕ} → Joined o d x q → Gap g → Reached (State.spaced (Around.head (Around.bar x o))) (q ++ g ++ bytes "|")
-join-arms (joined b w) i = spaced (head (bar b w i Gap.none)) (rw append-snoc (head (bar b w i Gap.space)))
+bar-reached : {o : Around ors} {d : ℕ} {x : Formula} {q g : List ℕ} → Joined o d x q → Gap g → Reached (State.spaced (Around.head (Around.bar x o))) (q ++ g ++ bytes "|")
+bar-reached (joined b w) i = spaced (head (bar b w i Gap.none)) (rw append-snoc (head (bar b w i Gap.space)))
 
 sign-arms : {a : Around ands} {d : ℕ} {x : Formula} {p s g : List ℕ} → Before ands a d p → Written ands d x s → Gap g → Arms (p ++ s ++ g) (signArms a x)
-sign-arms b w i = (spaced (amp b w i Gap.none) (rw append-snoc (amp b w i Gap.space)), (join-arms (join b w) i, (closed-reached (join b w) i, tt)))
+sign-arms b w i = (spaced (amp b w i Gap.none) (rw append-snoc (amp b w i Gap.space)), (bar-reached (join b w) i, (closed-reached (join b w) i, tt)))
 
 -- ---- any state
 
@@ -310,47 +318,16 @@ module _ (b : ℕ) (slot : Slot) (n : ℕ) (p : List ℕ) (h : Asked slot p) (i 
       second-reached
       (λ e. subst (λ s. Next (p ++ s ++ b ∷ []) (move (numberDone slot n) b)) (one-digit n (i .1)) (move-reached b (number-done n h (λ z. i .0) (omega arith))))
 
-pub step-reached : (b : ℕ) {st : State} {p : List ℕ} → Reached st p → Next (p ++ b ∷ []) (step st b)
+pub step-reached : (b : ℕ) (st : State) (p : List ℕ) → Reached st p → Next (p ++ b ∷ []) (step st b)
 unfolding step
-step-reached b (second {slot = slot} {n = n} {p = p} h i) = second-steps b slot n p h i
-step-reached b (word {w = w} {st = st} {p = p} h r) = word-moves b w st p r
-step-reached b (digits h) = move-reached b (digits h)
-step-reached b (ruleLine l e) = move-reached b (ruleLine l e)
-step-reached b (wishLine l) = move-reached b (wishLine l)
-step-reached b (spaced h i) = move-reached b (spaced h i)
-step-reached b (operand h) = move-reached b (operand h)
-step-reached b (after h w) = move-reached b (after h w)
-step-reached b (sign h w) = move-reached b (sign h w)
-step-reached b (wish h i) = move-reached b (wish h i)
-step-reached b (ended u h i) = move-reached b (ended u h i)
-
--- ---- the whole
-
-pub legal-stuck {ℓ} : {A : Type ℓ} {v : Typed} {n : ℕ} → stuck n ≡ legal v → A
-legal-stuck e = let z : _≡_ {A = ℕ} 0 1 = cc in absurd (omega arith)
-
-end-legal : {st : State} {p : List ℕ} (v : Typed) → Reached st p → atEnd st ≡ legal v → Legal v p
-unfolding atEnd
-end-legal v (ruleLine {v = u} {p = p} l i) e = let g : u ≡ v = cc in subst (λ u. Legal u p) g l
-end-legal v (wishLine {v = u} {p = p} l) e = let g : u ≡ v = cc in subst (λ u. Legal u p) g l
-end-legal v (word h r) e = legal-stuck e
-end-legal v (digits h) e = legal-stuck e
-end-legal v (second h i) e = legal-stuck e
-end-legal v (spaced h i) e = legal-stuck e
-end-legal v (operand h) e = legal-stuck e
-end-legal v (after h w) e = legal-stuck e
-end-legal v (sign h w) e = legal-stuck e
-end-legal v (wish h i) e = legal-stuck e
-end-legal v (ended u h i) e = legal-stuck e
-
-pub reached-legal : (s : List ℕ) (st : State) (p : List ℕ) (v : Typed) → Reached st p → walk st s ≡ legal v → Legal v (p ++ s)
-unfolding walk
-reached-legal [] st p v r e = rw append-nil (end-legal v r e)
-reached-legal (b ∷ s) st p v r e = go (step st b) (step-reached b r) e (reached-legal s)
-  where
-    go : (o : Option State) → Next (p ++ b ∷ []) o → goOn o (suc (length s)) (λ st. walk st s) ≡ legal v → ((st : State) (p : List ℕ) (v : Typed) → Reached st p → walk st s ≡ legal v → Legal v (p ++ s)) → Legal v (p ++ b ∷ s)
-    go none h e more = legal-stuck e
-    go (some to) h e more = rw append-snoc at (more to (p ++ b ∷ []) v h e)
-
-pub walk-legal : (s : List ℕ) (v : Typed) → walk start s ≡ legal v → Legal v s
-walk-legal s v e = reached-legal s start [] v start-reached e
+step-reached b (State.second slot n) p (second {p = q} h i) = second-steps b slot n q h i
+step-reached b (State.word w st) p r = move-reached b r
+step-reached b (State.digits slot) p r = move-reached b r
+step-reached b (State.ruleLine v) p r = move-reached b r
+step-reached b (State.wishLine v) p r = move-reached b r
+step-reached b (State.spaced k) p r = move-reached b r
+step-reached b (State.operand k) p r = move-reached b r
+step-reached b (State.after a x) p r = move-reached b r
+step-reached b (State.sign a x) p r = move-reached b r
+step-reached b (State.wish v w) p r = move-reached b r
+step-reached b (State.ended v w) p r = move-reached b r
