@@ -4,7 +4,7 @@ use mathlib.Core.Bool.{true, false, cond}
 use mathlib.Core.List.{List, [], _∷_, _++_, map, List·Memᴰ, Perm}
 use mathlib.Core.Logic.{_↔_}
 use mathlib.Core.Option.{none, some}
-use mathlib.Core.Path.{_≡_, sym, ap, _∙_}
+use mathlib.Core.Path.{_≡_, refl, sym, ap, _∙_}
 use Rattle.scope.specs.Sheet.{Number, number, field, fits, Line, Clause, Gate, Sheet, sheet, sheetBytes, fieldCount, All, Valid}
 use Rattle.scope.specs.Reading.{fieldOf, lineOf, columnOf, Read, accepted, refused, lineSize, read}
 use Rattle.scope.specs.Causes.{Printed, Begins, Met, Cause, SheetRefusal}
@@ -12,6 +12,8 @@ use Rattle.scope.specs.Source.{Source}
 use lib.ListN.{length, getD, take}
 use Rattle.scope.specs.Meaning.{all, any, plans, patterns, literalTrue, switchOn, faultOn, truth, passes, kept, cost}
 use Rattle.scope.specs.Typed.{Typed, Legal, formulaTrue, sheetOf, lineRows}
+use Rattle.scope.specs.Texts.{TextRead}
+use Rattle.scope.specs.Parsing.{readText}
 use Rattle.scope.specs.Jobs.{task, answerOf, shortOf, ratingOf}
 use Rattle.scope.specs.Demands.{list, Demand2, Demand3, ShortRun, Rates}
 use Rattle.scope.specs.Program.{outputRows}
@@ -28,6 +30,8 @@ use Rattle.scope.specs.laws.Rules as rules
 use Rattle.scope.specs.laws.Rules.{lead}
 use Rattle.scope.specs.laws.Demands as demands
 use Rattle.scope.specs.laws.Outputs as outputs
+use Rattle.scope.specs.laws.TextReads as textReads
+use Rattle.scope.specs.laws.Walked as walked
 use Rattle.scope.specs.laws.TypedSheets as typedSheets
 use Rattle.scope.specs.laws.TypedTruths as typedTruths
 
@@ -100,6 +104,18 @@ pub rating-claim : (r : Read) (p : ℕ) (t : Sheet) → r ≡ accepted t → p <
 rating-claim = demands.rating-right
 
 -- ---- typed texts
+
+-- what is read from a typed text is what TextRead says: the sheet that it stands for, or the first cause to turn it down
+pub text-read : (s : List ℕ) (r : Read) → (readText s ≡ r) ↔ TextRead s r
+text-read = textReads.text-iff
+
+-- a text is legal for one value only
+pub text-once : (v w : Typed) (s : List ℕ) → Legal v s → Legal w s → v ≡ w
+text-once = walked.legal-once
+
+-- what is read from it is a source
+pub text-source : (s : List ℕ) → Source (readText s)
+text-source s = typedSheets.reads-source s (readText s) (text-read s (readText s) .0 refl)
 
 -- of a legal text whose tests are all met, each rule is true exactly if its formula is, as it is written
 pub rules-as-written : (v : Typed) (s : List ℕ) → Legal v s → All Met (lineRows v) → (plan pattern : ℕ) → map (truth (sheetOf v) plan pattern) (sheetOf v .rules) ≡ map (formulaTrue (switchOn (sheetOf v) plan) (faultOn (sheetOf v) pattern)) (v .rules)

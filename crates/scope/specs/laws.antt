@@ -15,9 +15,9 @@ pub mod Pigeon
 pub mod Rules
 pub mod Demands
 pub mod Outputs
-pub mod TypedSheets
-pub mod TypedTruths
-pub mod Walked
-pub mod TextReads
 pub mod Reached
 pub mod Completed
+pub mod Walked
+pub mod TextReads
+pub mod TypedSheets
+pub mod TypedTruths

@@ -17,6 +17,7 @@ use Rattle.scope.specs.Texts.{Starts, Shared, FirstLine, here, later, Te
 use Rattle.scope.specs.Texts as texts
 use Rattle.scope.specs.Parsing.{Outcome, legal, stuck, walk, start, firstLine, textOf, readText}
 use Rattle.scope.specs.laws.Refusals.{met, met-none, first, first-some}
+use Rattle.scope.specs.laws.Completed.{walk-legal, walk-stuck}
 use Rattle.scope.specs.laws.Walked.{legal-walks, stuck-front, starts-walk}
 
 -- ---- the first line at fault
@@ -76,31 +77,29 @@ short-enough : (s : List ℕ) (o : Outcome) → length s ≤ mostText → walk s
 unfolding readText
 short-enough s o l e = rw (le-leb (length s) mostText l, e)
 
--- given that what is walked to a line's end is legal, and that what is walked at all begins a legal text
-module _ (walk-legal : (s : List ℕ) (v : Typed) → walk start s ≡ legal v → Legal v s) (walk-stuck : (s : List ℕ) (n : ℕ) → walk start s ≡ stuck n → (n ≤ length s) × Starts (take (length s - n) s)) where
-  stuck-shared : (s : List ℕ) (left : ℕ) → walk start s ≡ stuck left → Shared s (length s - left)
-  stuck-shared s left e = record { within = omega arith; starts = walk-stuck s left e .1; longest = stuck-longest s left e }
+stuck-shared : (s : List ℕ) (left : ℕ) → walk start s ≡ stuck left → Shared s (length s - left)
+stuck-shared s left e = record { within = omega arith; starts = walk-stuck s left e .1; longest = stuck-longest s left e }
 
-  text-told : (s : List ℕ) → TextRead s (readText s)
-  text-told s = size (decLe (length s) mostText)
-    where
-      walked : length s ≤ mostText → (o : Outcome) → walk start s ≡ o → TextRead s (textOf (length s) o)
-      walked l (legal v) e = by-lines (TextRead s) 0 (lineRows v) (accepted (sheetOf v)) (texts.accepted l (walk-legal s v e)) (λ c k f. rw zero-add (atFault l (walk-legal s v e) f))
-      walked l (stuck left) e = notLegal l (stuck-not-legal s left e) (stuck-shared s left e)
+text-told : (s : List ℕ) → TextRead s (readText s)
+text-told s = size (decLe (length s) mostText)
+  where
+    walked : length s ≤ mostText → (o : Outcome) → walk start s ≡ o → TextRead s (textOf (length s) o)
+    walked l (legal v) e = by-lines (TextRead s) 0 (lineRows v) (accepted (sheetOf v)) (texts.accepted l (walk-legal s v e)) (λ c k f. rw zero-add (atFault l (walk-legal s v e) f))
+    walked l (stuck left) e = notLegal l (stuck-not-legal s left e) (stuck-shared s left e)
 
-      size : Dec (length s ≤ mostText) → TextRead s (readText s)
-      size (yes l) = rw (short-enough s (walk start s) l refl) (walked l (walk start s) refl)
-      size (no l) = let h : mostText < length s = omega arith in rw (too-long s h) (tooLong h)
+    size : Dec (length s ≤ mostText) → TextRead s (readText s)
+    size (yes l) = rw (short-enough s (walk start s) l refl) (walked l (walk start s) refl)
+    size (no l) = let h : mostText < length s = omega arith in rw (too-long s h) (tooLong h)
 
-  told-text : (s : List ℕ) {r : Read} → TextRead s r → readText s ≡ r
-  told-text s (tooLong h) = too-long s h
-  told-text s (notLegal {n} l f h) = go (walk start s) refl
-    where
-      go : (o : Outcome) → walk start s ≡ o → readText s ≡ refused 12 (suc n) 0
-      go (legal v) e = absurd (f v (walk-legal s v e))
-      go (stuck left) e = short-enough s (stuck left) l e ∙ ap (λ n. refused 12 (suc n) 0) (shared-once (stuck-shared s left e) h)
-  told-text s (atFault {v} {c} {k} l h f) = short-enough s (legal v) l (legal-walks v s h) ∙ line-refused f 0 (accepted (sheetOf v)) ∙ ap (λ n. refused c n 0) (zero-add k)
-  told-text s (texts.accepted {v} l h m) = short-enough s (legal v) l (legal-walks v s h) ∙ lines-met (lineRows v) m 1 (accepted (sheetOf v))
+told-text : (s : List ℕ) {r : Read} → TextRead s r → readText s ≡ r
+told-text s (tooLong h) = too-long s h
+told-text s (notLegal {n} l f h) = go (walk start s) refl
+  where
+    go : (o : Outcome) → walk start s ≡ o → readText s ≡ refused 12 (suc n) 0
+    go (legal v) e = absurd (f v (walk-legal s v e))
+    go (stuck left) e = short-enough s (stuck left) l e ∙ ap (λ n. refused 12 (suc n) 0) (shared-once (stuck-shared s left e) h)
+told-text s (atFault {v} {c} {k} l h f) = short-enough s (legal v) l (legal-walks v s h) ∙ line-refused f 0 (accepted (sheetOf v)) ∙ ap (λ n. refused c n 0) (zero-add k)
+told-text s (texts.accepted {v} l h m) = short-enough s (legal v) l (legal-walks v s h) ∙ lines-met (lineRows v) m 1 (accepted (sheetOf v))
 
-  pub text-iff : (s : List ℕ) (r : Read) → (readText s ≡ r) ↔ TextRead s r
-  text-iff s r = (λ e. subst (TextRead s) e (text-told s), told-text s)
+pub text-iff : (s : List ℕ) (r : Read) → (readText s ≡ r) ↔ TextRead s r
+text-iff s r = (λ e. subst (TextRead s) e (text-told s), told-text s)
