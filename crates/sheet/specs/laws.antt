@@ -1,2 +1,4 @@
 pub mod Bounds
 pub mod Outcomes
+pub mod Rows
+pub mod Held

@@ -19,31 +19,31 @@ use crate::line::nth;
 use crate::tables;
 use crate::tables::Counts;
 
-const MOST_SWITCHES: u32 = 20;
+pub const MOST_SWITCHES: u32 = 20;
 
-const MOST_FAULTS: u32 = 16;
+pub const MOST_FAULTS: u32 = 16;
 
-const MOST_GATES: u32 = tables::MOST_GATES as u32;
+pub const MOST_GATES: u32 = tables::MOST_GATES as u32;
 
-const MOST_RULES: u32 = tables::MOST_RULES as u32;
+pub const MOST_RULES: u32 = tables::MOST_RULES as u32;
 
-const MOST_WISHES: u32 = tables::MOST_WISHES as u32;
+pub const MOST_WISHES: u32 = tables::MOST_WISHES as u32;
 
 // line malformed or letter unknown
 pub const MALFORMED: u32 = 2;
 // letter not allowed at this line
 const ORDER: u32 = 3;
 // switches or faults outside their range
-const RANGE: u32 = 4;
+pub const RANGE: u32 = 4;
 // one gate, rule or wish too many
-const LIMIT: u32 = 5;
+pub const LIMIT: u32 = 5;
 // point or literal not allowed, unused field not 0, literal after a 0
-const FIELDS: u32 = 6;
+pub const FIELDS: u32 = 6;
 // wrong number of lines
 const COUNT: u32 = 7;
 
 // A test before others: `number` unless it is met, and then what they give.
-fn row(number: u32, met: bool, later: u32) -> u32
+pub fn row(number: u32, met: bool, later: u32) -> u32
     ensures { λ r. ⌜ r ≡ rowOf number met later ⌝ }
 {
     if met {

@@ -2,12 +2,13 @@
 // down; its promise, for every input, is that the tables are `outcome` (specs/Tables) of what the scope's `read` gives for the bytes.
 // The crate rests on `scope` alone. Beside Tables, specs/ has the steps of the code and the laws that callers cite.
 mod allowed;
-mod causes;
+pub mod causes;
 mod field;
 mod line;
 mod reader;
 pub mod tables;
 
+pub use allowed::both;
 pub use causes::MALFORMED;
 pub use line::AND;
 pub use line::NOT;

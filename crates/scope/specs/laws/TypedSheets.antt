@@ -93,7 +93,7 @@ module _ (a f : ℕ) where
 
   -- ---- those of several, one after the other
 
-  length-points : (n : ℕ) (xs : List Formula) → length (allPoints a f n xs) ≡ length xs
+  pub length-points : (n : ℕ) (xs : List Formula) → length (allPoints a f n xs) ≡ length xs
   unfolding allPoints
   length-points n [] = refl
   length-points n (x ∷ xs) = ap suc (length-points (n + operators x) xs)

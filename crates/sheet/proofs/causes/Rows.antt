@@ -1,24 +1,15 @@
--- A test before others, as the code makes it. Assumes nothing.
-use Prim.Native.Nat.{ℕ, _≤_}
+-- Rows that the code need not test one by one. Assumes nothing.
 use native.Mathlib.Omega.{arith}
-use mathlib.Core.Bool.{Bool, true, false}
-use mathlib.Core.List.{List, [], _∷_}
-use mathlib.Core.Path.{_≡_, refl, sym, subst, _∙_}
+use mathlib.Core.Bool.{false}
+use mathlib.Core.List.{List, _∷_}
+use mathlib.Core.Path.{_≡_, refl}
 use mathlib.Core.Option.{Option, none, some}
 use Rattle.scope.specs.Sheet.{Letter}
 use Rattle.scope.specs.Reading.{Row, joined}
-use Rattle.scope.specs.Causes.{here, later}
-use Rattle.sheet.specs.Steps.{rowOf, Fault}
+use Rattle.scope.specs.Causes.{here}
+use Rattle.sheet.specs.Steps.{Fault}
 
-pub none-left : Fault [] 0
-none-left = record { met = λ e. tt; first = λ e. absurd (e refl) }
-
--- the code tests `made`, and the scope `ok`
-pub row : {rs : List Row} {made ok : Bool} {more r : ℕ} (n : ℕ) → r ≡ rowOf n made more → made ≡ ok → 1 ≤ n → Fault rs more → Fault ((n, ok) ∷ rs) r
-unfolding rowOf
-row {rs} {ok = true} n e t p f = subst (Fault ((n, true) ∷ rs)) (sym (e ∙ rw t)) (record { met = λ z. (refl, f .met z); first = λ z. later (f .first z) })
-row {rs} {ok = false} n e t p f = subst (Fault ((n, false) ∷ rs)) (sym (e ∙ rw t)) (record { met = λ z. absurd (omega arith); first = λ z. here })
-
+-- a malformed line
 pub form : {rs : List Row} → Fault ((2, false) ∷ rs) 2
 form = record { met = λ z. absurd (omega arith); first = λ z. here }
 

@@ -20,33 +20,11 @@ use Rattle.sheet.specs.Tables.{padded, tables, filled, refusal, outcome}
 use Rattle.sheet.specs.Lines.{letterFrom, numbersFrom, lineFrom, LineRead}
 use Rattle.sheet.specs.Steps.{Counted, Held, Few, Fault, RoomFor, Room, Sized}
 use Rattle.sheet.specs.laws.Bounds.{Bounds, before-bounds}
+use Rattle.sheet.specs.laws.Held.{counts, tablesFrom, nothing-held, held-tables}
 use Rattle.sheet.specs.declared.line.Line.{Line}
 use Rattle.sheet.specs.declared.tables.Tables.{Tables}
 use Rattle.sheet.specs.declared.tables.Counts.{Counts}
 use Rattle.sheet.proofs.causes.Rows.{joined-none}
-
--- the counts and the tables as the code makes them
-abbrev counts : (switches faults gates rules wishes : ℕ) → Counts
-counts a f g r w = record { switches = a; faults = f; gates = g; rules = r; wishes = w }
-
-abbrev tablesFrom : Counts → (kind left right rule first second third : List ℕ) → Tables
-tablesFrom c kind left right rule first second third = record {
-  number = 0;
-  place = 0;
-  column = 0;
-  switches = c .switches;
-  faults = c .faults;
-  gates = c .gates;
-  rules = c .rules;
-  wishes = c .wishes;
-  kind = kind;
-  left = left;
-  right = right;
-  rule = rule;
-  first = first;
-  second = second;
-  third = third;
-}
 
 -- ---- what a line that passes finds room for
 
@@ -84,17 +62,8 @@ pub record Reached (n : ℕ) (s : List ℕ) (k : ℕ) (c : Counts) (kind left ri
   pub passed : (j : ℕ) → j < k → Passed n s j
 
 pub begun : (n : ℕ) (s : List ℕ) → Reached n s 0 (counts 0 0 0 0 0) (replicate mostGates 0) (replicate mostGates 0) (replicate mostGates 0) (replicate mostRules 0) (replicate mostWishes 0) (replicate mostWishes 0) (replicate mostWishes 0)
-unfolding before padded
-begun n s = record {
-  within = omega arith;
-  held = record {
-    counts = record { switches = refl; faults = refl; gates = refl; rules = refl; wishes = refl };
-    gates = record { kinds = refl; lefts = refl; rights = refl };
-    rules = refl;
-    wishes = record { firsts = refl; seconds = refl; thirds = refl };
-  };
-  passed = λ j h. absurd (omega arith);
-}
+unfolding before
+begun n s = record { within = omega arith; held = nothing-held; passed = λ j h. absurd (omega arith) }
 
 pub line-fits : (n k size count : ℕ) (s : List ℕ) → Sized n s size count → k < count → k * size + lineSize n ≤ length s
 line-fits n k size count s z h = rw (z .size) (line-within n s k (rw (z .count) at h))
@@ -149,11 +118,6 @@ module _ (n k size count f : ℕ) (s : List ℕ) (c : Counts) (kind left right r
       let (m, i) = passes q in
       let w : k < lineCount n s = rw (z .count) at b in
       rw add-one (record { within = omega arith; held = rw i (g (before n s k) (h .held)); passed = up-to k (h .passed) m })
-
-module _ (t : Sheet) (c : Counts) (kind left right rule first second third : List ℕ) (h : Held t c kind left right rule first second third) where
-  held-tables : tablesFrom c kind left right rule first second third ≡ filled t
-  unfolding tables
-  held-tables = rw (h .counts .switches, h .counts .faults, h .counts .gates, h .counts .rules, h .counts .wishes, h .gates .kinds, h .gates .lefts, h .gates .rights, h .rules, h .wishes .firsts, h .wishes .seconds, h .wishes .thirds)
 
 pub taken-in : (n k size count : ℕ) (s : List ℕ) (c : Counts) (kind left right rule first second third : List ℕ) → Sized n s size count → count ≤ k → Reached n s k c kind left right rule first second third → tablesFrom c kind left right rule first second third ≡ outcome (read n s)
 taken-in n k size count s c kind left right rule first second third z b h =

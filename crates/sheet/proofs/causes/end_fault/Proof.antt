@@ -1,5 +1,5 @@
 use Rattle.scope.specs.Reading.{rows, is}
-use Rattle.sheet.proofs.causes.Rows.{row, none-left}
+use Rattle.sheet.specs.laws.Rows.{row, none-left}
 use native.Mathlib.Omega.{arith}
 use mathlib.Core.Path.{ap, _∙_}
 use borrow.Author.Needs.{needs}

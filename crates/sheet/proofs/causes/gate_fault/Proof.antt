@@ -1,6 +1,6 @@
 use Rattle.scope.specs.Sheet.{mostGates}
 use lib.Dec.{eqb, ltb}
-use Rattle.sheet.proofs.causes.Rows.{row, none-left}
+use Rattle.sheet.specs.laws.Rows.{row, none-left}
 use native.Mathlib.Omega.{arith}
 use mathlib.Core.Bool.{_&&_}
 use mathlib.Core.Path.{refl, ap, ap₂, _∙_}

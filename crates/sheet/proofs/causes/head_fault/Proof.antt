@@ -1,6 +1,6 @@
 use Rattle.scope.specs.Sheet.{mostSwitches, mostFaults}
 use Rattle.scope.specs.Reading.{rows, upTo}
-use Rattle.sheet.proofs.causes.Rows.{row, none-left}
+use Rattle.sheet.specs.laws.Rows.{row, none-left}
 use native.Mathlib.Omega.{arith}
 use mathlib.Core.Bool.{_&&_}
 use mathlib.Core.Path.{ap, ap₂, _∙_}

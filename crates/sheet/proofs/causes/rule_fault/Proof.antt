@@ -1,7 +1,7 @@
 use Rattle.scope.specs.Reading.{rows}
 use Rattle.scope.specs.Sheet.{mostRules}
 use lib.Dec.{eqb, ltb}
-use Rattle.sheet.proofs.causes.Rows.{row, none-left}
+use Rattle.sheet.specs.laws.Rows.{row, none-left}
 use native.Mathlib.Omega.{arith}
 use mathlib.Core.Bool.{_&&_}
 use mathlib.Core.Path.{ap, ap₂, _∙_}

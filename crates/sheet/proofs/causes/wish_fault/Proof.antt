@@ -2,7 +2,7 @@ use Rattle.sheet.proofs.line.Parts.{front-numbers}
 use Rattle.scope.specs.Reading.{rows, literals}
 use Rattle.scope.specs.Sheet.{mostWishes, mostLiterals}
 use lib.Dec.{ltb}
-use Rattle.sheet.proofs.causes.Rows.{row, none-left}
+use Rattle.sheet.specs.laws.Rows.{row, none-left}
 use native.Mathlib.Omega.{arith}
 use mathlib.Core.Bool.{_&&_}
 use mathlib.Core.Path.{sym, ap, ap₂, _∙_}
