@@ -138,7 +138,7 @@ pub record Gated (a f letter l m : ℕ) (p r : Parsed) (kind left right kinds le
   pub adds : p .bad ≡ false → r ≡ gated a f p
   pub holds : p .bad ≡ false → (gs : List Gate) (g : Gate) → Holds gs (p .gates) kind left right → letter ≡ kindOf g → l ≡ leftOf g → m ≡ rightOf g → Holds (gs ++ g ∷ []) (p .gates + 1) kinds lefts rights
 
--- ---- the bracket after a formula
+-- ---- the bracket or the line feed after a formula
 
 abbrev pub badAt : ℕ → Parsed
 badAt n = record { bad = true; at = n; point = 0; gates = 0; known = false }
@@ -148,3 +148,6 @@ moved p n = record { bad = p .bad; at = n; point = p .point; gates = p .gates; k
 
 unfoldable pub closedOf : List ℕ → Parsed → Parsed
 closedOf s p = cond (p .bad) p (cond (eqb (signAt s (p .at)) (code ")")) (moved p (skip s (p .at) + 1)) (badAt (skip s (p .at))))
+
+unfoldable pub fedOf : List ℕ → Parsed → Parsed
+fedOf s p = cond (p .bad) p (cond (eqb (look s (p .at)) (code "\n")) (moved p (p .at + 1)) (badAt (skip s (p .at))))

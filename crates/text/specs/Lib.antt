@@ -2,5 +2,6 @@
 pub mod Look
 pub mod Words
 pub mod Formulas
+pub mod Lines
 -- proved, for the proofs of the code
 pub mod laws

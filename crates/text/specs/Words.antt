@@ -40,3 +40,9 @@ pub record NumberRead (s : List ℕ) (zero : Bool) (at : ℕ) (r : Word) : Type 
   pub good : r .bad ≡ false → (slot : Slot) → zeroOk slot ≡ zero → Came s (digits slot) at (numberDone slot (r .value)) (r .at)
   pub few : r .value ≤ mostNumber
   pub bad : r .bad ≡ true → (slot : Slot) → zeroOk slot ≡ zero → Stuck s (digits slot) at (r .at)
+
+-- the bytes w from `at` on, and then a number
+pub record NamedRead (s w : List ℕ) (zero : Bool) (at : ℕ) (r : Word) : Type 0 where
+  pub good : r .bad ≡ false → (slot : Slot) → zeroOk slot ≡ zero → Came s (word w (digits slot)) at (numberDone slot (r .value)) (r .at)
+  pub few : r .value ≤ mostNumber
+  pub bad : r .bad ≡ true → (slot : Slot) → zeroOk slot ≡ zero → Stuck s (word w (digits slot)) at (r .at)

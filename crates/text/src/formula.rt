@@ -1,15 +1,16 @@
 // A formula: factors joined by `&`, these joined by `|`, both from the left. Each operator's gate goes into the lent columns when its
 // operands are complete, as long as there is room; all are counted.
-ghost use mathlib.Core.Bool.{_&&_};
 ghost use mathlib.Core.Logic.{_≢_};
 ghost use mathlib.Core.Path.{_≡_};
 ghost use Prim.Native.Nat.{_≤_, _<_};
 ghost use Rattle.scope.specs.Typed.{mostText, mostNumber};
 ghost use Rattle.text.specs.Look as place;
-ghost use Rattle.text.specs.Formulas.{Asked, AtomRead, FactorRead, AndsRead, OrsRead, Ends, Gated, notSign, openSign, andSign, orSign, goesOn, operandAt, badAt, closedOf};
+ghost use Rattle.text.specs.Formulas.{Asked, AtomRead, FactorRead, AndsRead, OrsRead, Ends, Gated, notSign, openSign, andSign, orSign, goesOn, operandAt, badAt, closedOf, fedOf};
 use crate::reader::look;
 use crate::reader::skip;
 use crate::words::number_at;
+use sheet::both;
+use sheet::causes::MOST_GATES as FULL;
 use sheet::tables;
 use sheet::tables::Counts;
 use sheet::tables::MOST_GATES;
@@ -28,7 +29,7 @@ const OPEN: u32 = b'(' as u32;
 
 const CLOSE: u32 = b')' as u32;
 
-const FULL: u32 = MOST_GATES as u32;
+const FEED: u32 = b'\n' as u32;
 
 // What was read of a formula; or, if it is bad, the place where no legal text goes on.
 pub struct Parsed {
@@ -58,15 +59,6 @@ fn stuck(at: usize) -> Parsed
         gates: 0,
         known: false,
     }
-}
-
-fn both(a: bool, b: bool) -> bool
-    ensures { λ r. ⌜ r ≡ (a && b) ⌝ }
-{
-    if a {
-        return b;
-    }
-    false
 }
 
 // A switch or a fault.
@@ -156,6 +148,7 @@ fn operand_at(s: &[u8], at: usize) -> usize
     skip(s, skip(s, at) + 1)
 }
 
+// The bracket after a formula.
 fn closed(s: &[u8], p: Parsed) -> Parsed
     ensures { λ r. ⌜ r ≡ closedOf (now (s .entry)) p ⌝ }
 {
@@ -174,6 +167,26 @@ fn closed(s: &[u8], p: Parsed) -> Parsed
         };
     }
     stuck(end)
+}
+
+// The line feed after a formula, before which no space may stand.
+pub fn fed(s: &[u8], p: Parsed) -> Parsed
+    ensures { λ r. ⌜ r ≡ fedOf (now (s .entry)) p ⌝ }
+{
+    if p.bad {
+        return p;
+    }
+    let at = p.at;
+    if look(s, at) == FEED {
+        return Parsed {
+            bad: p.bad,
+            at: at + 1,
+            point: p.point,
+            gates: p.gates,
+            known: p.known,
+        };
+    }
+    stuck(skip(s, at))
 }
 
 // Nots and brackets together are at most `depth` deep.

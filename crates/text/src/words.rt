@@ -3,7 +3,7 @@ ghost use mathlib.Core.Bool.{true};
 ghost use mathlib.Core.Path.{_≡_};
 ghost use Prim.Native.Nat.{_≤_, _<_};
 ghost use lib.ListN.{length};
-ghost use Rattle.text.specs.Words.{WordRead, NumberRead};
+ghost use Rattle.text.specs.Words.{WordRead, NumberRead, NamedRead};
 use crate::reader::look;
 
 const ZERO: u32 = b'0' as u32;
@@ -95,4 +95,16 @@ pub fn number_at(s: &[u8], at: usize, zero: bool) -> Word
         at: at + 2,
         value: n * 10 + (second - ZERO),
     }
+}
+
+// A word and the number after it; whether that may be 0.
+pub fn named_at(s: &[u8], at: usize, word: &[u8], zero: bool) -> Word
+    requires { ⌜ (at ≤ length (now s)) × (0 < length (now word)) ⌝ }
+    ensures { λ r. ⌜ NamedRead (now (s .entry)) (now (word .entry)) zero at r ⌝ }
+{
+    let w = word_at(s, at, word);
+    if w.bad {
+        return stuck(w.at);
+    }
+    number_at(s, w.at, zero)
 }

@@ -49,14 +49,18 @@ came s st to at h e = record {
   walk = walk-byte s st at h ∙ ap (λ o. goOn o (length s - at) (λ to. walk to (drop (at + 1) s))) e;
 }
 
--- no byte fits, and the text may not end here
+-- no byte fits
+pub stops-within : (s : List ℕ) (st : State) (at : ℕ) → at < length s → step st (look s at) ≡ none → Stuck s st at at
+stops-within s st at h e = record { within = omega arith; walk = walk-byte s st at h ∙ ap (λ o. goOn o (length s - at) (λ to. walk to (drop (at + 1) s))) e }
+
+-- and the text may not end here
 pub stops : (s : List ℕ) (st : State) (at : ℕ) → at ≤ length s → step st (look s at) ≡ none → atEnd st ≡ stuck 0 → Stuck s st at at
 unfolding walk
 stops s st at h e f = record { within = h; walk = go (decLe (length s) at) }
   where
     go : Dec (length s ≤ at) → walk st (drop at s) ≡ stuck (length s - at)
     go (yes p) = let n : length s - at ≡ 0 = omega arith in rw (drop-of-length-le s {i = at} p, n) f
-    go (no p) = walk-byte s st at (omega (arith, p)) ∙ ap (λ o. goOn o (length s - at) (λ to. walk to (drop (at + 1) s))) e
+    go (no p) = stops-within s st at (omega arith) e .walk
 
 -- ---- one after the other
 
@@ -71,10 +75,14 @@ came-stuck s st to at n m c d = record { within = d .within; walk = c .walk ∙ 
 
 -- ---- two states that go on alike from a place
 
+-- a byte stands there, so the end of the text does not count
+pub alike-within : (s : List ℕ) (st to : State) (at : ℕ) → at < length s → step st (look s at) ≡ step to (look s at) → walk st (drop at s) ≡ walk to (drop at s)
+alike-within s st to at h e = walk-byte s st at h ∙ ap (λ o. goOn o (length s - at) (λ st. walk st (drop (at + 1) s))) e ∙ sym (walk-byte s to at h)
+
 pub alike : (s : List ℕ) (st to : State) (at : ℕ) → step st (look s at) ≡ step to (look s at) → atEnd st ≡ atEnd to → walk st (drop at s) ≡ walk to (drop at s)
 unfolding walk
 alike s st to at e f = go (decLe (length s) at)
   where
     go : Dec (length s ≤ at) → walk st (drop at s) ≡ walk to (drop at s)
     go (yes p) = rw (drop-of-length-le s {i = at} p) f
-    go (no p) = walk-byte s st at (omega arith) ∙ ap (λ o. goOn o (length s - at) (λ st. walk st (drop (at + 1) s))) e ∙ sym (walk-byte s to at (omega arith))
+    go (no p) = alike-within s st to at (omega arith) e

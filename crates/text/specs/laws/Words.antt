@@ -18,9 +18,9 @@ use Rattle.scope.specs.Parsing as parsing
 use Rattle.scope.specs.Typed.{Formula, factor}
 use Rattle.scope.specs.laws.Tests.{clash}
 use Rattle.text.specs.Look.{end, look}
-use Rattle.text.specs.Words.{Stuck, Came, rest, Partly, WordRead, NumberRead}
+use Rattle.text.specs.Words.{Stuck, Came, rest, Partly, WordRead, NumberRead, NamedRead}
 use Rattle.text.specs.declared.words.Word.{Word}
-use Rattle.text.specs.laws.Walks.{stands, came, stops, came-came, alike}
+use Rattle.text.specs.laws.Walks.{stands, came, stops, came-came, came-stuck, alike}
 
 -- ---- the bytes of a word
 
@@ -153,3 +153,16 @@ module _ (s : List ℕ) (zero : Bool) (at : ℕ) (within : at ≤ length s) (r :
       few = omega arith;
       bad = λ t. clash t refl;
     }
+
+-- ---- a word and a number
+
+module _ (s w : List ℕ) (zero : Bool) (at : ℕ) (t r : Word) (h : WordRead s w at t) where
+  pub named-bad : t .bad ≡ true → r ≡ record { bad = true; at = t .at; value = 0 } → NamedRead s w zero at r
+  named-bad b e = rw e record { good = λ u. clash refl u; few = omega arith; bad = λ u slot z. h .bad b (digits slot) }
+
+  pub named-good : t .bad ≡ false → NumberRead s zero (t .at) r → NamedRead s w zero at r
+  named-good b n = record {
+    good = λ u slot z. came-came s (word w (digits slot)) (digits slot) (numberDone slot (r .value)) at (t .at) (r .at) (h .good b (digits slot)) (n .good u slot z);
+    few = n .few;
+    bad = λ u slot z. came-stuck s (word w (digits slot)) (digits slot) at (t .at) (r .at) (h .good b (digits slot)) (n .bad u slot z);
+  }

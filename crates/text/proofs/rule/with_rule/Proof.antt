@@ -1,0 +1,56 @@
+use mathlib.Core.Path.{refl, ap₂, _∙_}
+use native.Mathlib.Omega.{arith}
+use Rattle.sheet.specs.Steps.{rowOf}
+use borrow.Author.Needs.{needs}
+use Rattle.text.proofs.rule.with_rule.Statement.{statement}
+use Rattle.text.proofs.rule.with_rule.Tie as tie
+
+both-requires : tie.Need-both-requires
+both-requires c κs = search needs
+
+row-requires : tie.Need-row-requires
+row-requires c κs = search needs
+
+row-requires-2 : tie.Need-row-requires-2
+row-requires-2 c κs = search needs
+
+add-t9 : tie.Need-add-t9
+add-t9 c = search needs
+
+cast-first-of : tie.Need-cast-first-of
+cast-first-of c = search needs
+
+add-first-of : tie.Need-add-first-of
+add-first-of c = search needs
+
+add-first-of-2 : tie.Need-add-first-of-2
+add-first-of-2 c = search needs
+
+first-of-requires : tie.Need-first-of-requires
+first-of-requires c κs = search needs
+
+returns : tie.Need-returns
+returns c =
+    let e = c .before .before .row2 .ensures ∙ ap₂ (rowOf 5) (c .before .before .before .before .both .ensures) (c .before .before .before .row .ensures) in
+    record {
+      good = refl;
+      at = refl;
+      gates = refl;
+      rules = refl;
+      wishes = refl;
+      fault = λ rss rs h g d. c .first-of .ensures rss rs h (rw e g) (omega (arith, d));
+    }
+
+pub with-rule-spec : {M : Type 1} → statement M
+with-rule-spec =
+    tie.close
+    (tie.spec
+    both-requires
+    row-requires
+    row-requires-2
+    add-t9
+    cast-first-of
+    add-first-of
+    add-first-of-2
+    first-of-requires
+    returns)

@@ -1,0 +1,45 @@
+use denote.Ref.{now}
+use Rattle.text.specs.laws.Wishes.{no-literal, named-literal}
+use borrow.Author.Needs.{needs}
+use Rattle.text.proofs.wish.named_literal.Statement.{statement}
+use Rattle.text.proofs.wish.named_literal.Tie as tie
+
+slice-aggregate-named-at : tie.Need-slice-aggregate-named-at
+slice-aggregate-named-at c = search needs
+
+named-at-requires : tie.Need-named-at-requires
+named-at-requires c κs = search needs
+
+no-wish-requires : tie.Need-no-wish-requires
+no-wish-requires c κs = search needs
+
+returns : tie.Need-returns
+returns c =
+    let a = c .before .before .before .before .before .args in
+    let k = c .before .before .named-at in
+    no-literal (a .minus) (now (a .s)) (a .switches) (a .at) (a .w) _ (k .result) (k .ensures) (c .before .if1 .taken) (c .no-wish .ensures)
+
+literal-code-requires : tie.Need-literal-code-requires
+literal-code-requires c κs = search needs
+
+with-literal-requires : tie.Need-with-literal-requires
+with-literal-requires c κs = search needs
+
+returns-2 : tie.Need-returns-2
+returns-2 c =
+    let a = c .before .before .before .before .before .before .before .args in
+    let k = c .before .before .before .before .named-at in
+    let n = c .before .before .literal-code in
+    named-literal (a .minus) (now (a .s)) (a .switches) (a .at) (a .w) _ (k .result) (k .ensures) (n .result) (c .before .before .before .if1 .left) (c .before .before .before .before .before .before .before .pre .1) (n .ensures) (c .with-literal .ensures)
+
+pub named-literal-spec : {M : Type 1} → statement M
+named-literal-spec =
+    tie.close
+    (tie.spec
+    slice-aggregate-named-at
+    named-at-requires
+    no-wish-requires
+    returns
+    literal-code-requires
+    with-literal-requires
+    returns-2)

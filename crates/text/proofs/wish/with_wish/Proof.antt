@@ -1,0 +1,54 @@
+use mathlib.Core.Path.{refl}
+use native.Mathlib.Omega.{arith}
+use borrow.Author.Needs.{needs}
+use Rattle.text.proofs.wish.with_wish.Statement.{statement}
+use Rattle.text.proofs.wish.with_wish.Tie as tie
+
+row-requires : tie.Need-row-requires
+row-requires c κs = search needs
+
+row-requires-2 : tie.Need-row-requires-2
+row-requires-2 c κs = search needs
+
+cast-line : tie.Need-cast-line
+cast-line c = search needs
+
+cast-line-2 : tie.Need-cast-line-2
+cast-line-2 c = search needs
+
+add-line : tie.Need-add-line
+add-line c = search needs
+
+add-line-2 : tie.Need-add-line-2
+add-line-2 c = search needs
+
+add-line-3 : tie.Need-add-line-3
+add-line-3 c = search needs
+
+add-t9 : tie.Need-add-t9
+add-t9 c = search needs
+
+add-t8 : tie.Need-add-t8
+add-t8 c = search needs
+
+first-of-requires : tie.Need-first-of-requires
+first-of-requires c κs = search needs
+
+returns : tie.Need-returns
+returns c = record { good = refl; at = refl; gates = refl; rules = refl; wishes = refl; fault = λ rss rs h f e. c .first-of .ensures rss rs h (rw (c .before .before .before .before .row2 .ensures, c .before .before .before .before .before .row .ensures) f) (omega (arith, e)) }
+
+pub with-wish-spec : {M : Type 1} → statement M
+with-wish-spec =
+    tie.close
+    (tie.spec
+    row-requires
+    row-requires-2
+    cast-line
+    cast-line-2
+    add-line
+    add-line-2
+    add-line-3
+    add-t9
+    add-t8
+    first-of-requires
+    returns)

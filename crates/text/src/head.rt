@@ -1,0 +1,42 @@
+// The first two lines: how many switches and faults there are.
+ghost use Rattle.text.specs.Lines.{HeadRead};
+use crate::words::named_at;
+use crate::words::word_at;
+
+// Or, if it is bad, the place where no legal text goes on.
+pub struct Head {
+    pub bad: bool,
+    pub at: usize,
+    pub switches: u32,
+    pub faults: u32,
+}
+
+pub fn head_at(s: &[u8]) -> Head
+    ensures { λ r. ⌜ HeadRead (now (s .entry)) r ⌝ }
+{
+    let switches = named_at(s, 0, b"switches ", true);
+    if switches.bad {
+        return Head {
+            bad: true,
+            at: switches.at,
+            switches: 0,
+            faults: 0,
+        };
+    }
+    let faults = named_at(s, switches.at, b"\nfaults ", true);
+    if faults.bad {
+        return Head {
+            bad: true,
+            at: faults.at,
+            switches: 0,
+            faults: 0,
+        };
+    }
+    let end = word_at(s, faults.at, b"\n");
+    Head {
+        bad: end.bad,
+        at: end.at,
+        switches: switches.value,
+        faults: faults.value,
+    }
+}
