@@ -1,8 +1,6 @@
-use Prim.Native.Nat.{ℕ}
-use mathlib.Core.Path.{_≡_, sym, _∙_}
-use lib.ListN.{length, replicate, length-replicate}
+use mathlib.Core.Path.{sym}
 use lib.Seq.{length-take-le}
-use Rattle.planner.specs.laws.Listing.{listing-within}
+use Rattle.planner.specs.laws.Listing.{listing-fits}
 use borrow.Author.Needs.{needs}
 use Rattle.plan.proofs.main.Statement.{statement}
 use Rattle.plan.proofs.main.Tie as tie
@@ -28,9 +26,7 @@ print-listing-requires c κs = search needs
 array-share-prefix-out : tie.Need-array-share-prefix-out
 array-share-prefix-out c =
     let p = c .before .print-listing in
-    let n : length (p .last .1 .0) ≡ 71094 = search needs in
-    let w = listing-within _ (replicate 71094 0) (p .last .1 .0) (p .ensures .0) (n ∙ sym (length-replicate {A = ℕ} 71094 0)) in
-    rw (p .ensures .1, n) (rw length-replicate at w)
+    listing-fits _ (p .last .1 .0) (p .result) (p .ensures .0) (p .ensures .1) (search needs)
 
 slice-aggregate-write-all : tie.Need-slice-aggregate-write-all
 slice-aggregate-write-all c = sym (length-take-le _ _ (array-share-prefix-out (c .before)))

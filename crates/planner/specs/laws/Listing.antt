@@ -104,3 +104,9 @@ listing-within r out after e n = go (ltb (length out) 71094) (ap length (sym e) 
     go : (b : Bool) → length (cond b out (over (rowsBytes (outputRows r)) out)) ≡ length out → cond b 0 (length (rowsBytes (outputRows r))) ≤ length out
     go true h = omega arith
     go false h = omega (arith, length-append (rowsBytes (outputRows r)) (drop (length (rowsBytes (outputRows r))) out), length-drop (length (rowsBytes (outputRows r))) out)
+
+-- so the listing stands in a buffer that has room for the longest
+pub listing-fits : (r : Read) (after : List ℕ) (m : ℕ) → after ≡ listingInto r (replicate 71094 0) → m ≡ listingLength r (replicate 71094 0) → length after ≡ 71094 → m ≤ length after
+listing-fits r after m e f n =
+    let w : listingLength r (replicate 71094 0) ≤ length {A = ℕ} (replicate 71094 0) = listing-within r (replicate 71094 0) after e (n ∙ sym (length-replicate {A = ℕ} 71094 0)) in
+    rw (f, n) (rw length-replicate at w)

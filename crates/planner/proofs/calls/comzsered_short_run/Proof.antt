@@ -1,0 +1,16 @@
+use mathlib.Core.Path.{_∙_}
+use borrow.Author.Needs.{needs}
+use Rattle.planner.proofs.calls.comzsered_short_run.Statement.{statement}
+use Rattle.planner.proofs.calls.comzsered_short_run.Tie as tie
+
+short-run-requires : tie.Need-short-run-requires
+short-run-requires c κs = search needs
+
+hand-out-requires : tie.Need-hand-out-requires
+hand-out-requires c κs = search needs
+
+returns : tie.Need-returns
+returns c = c .hand-out .ensures ∙ c .before .before .before .before .before .before .short-run .ensures
+
+pub comzsered-short-run-spec : {M : Type 1} → statement M
+comzsered-short-run-spec = tie.close (tie.spec short-run-requires hand-out-requires returns)

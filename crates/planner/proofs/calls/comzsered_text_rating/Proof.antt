@@ -1,0 +1,18 @@
+use mathlib.Core.Path.{sym, ap, _∙_}
+use Rattle.planner.specs.Figures.{ratingFigures}
+use borrow.Author.Needs.{needs}
+use Rattle.planner.proofs.calls.comzsered_text_rating.Statement.{statement}
+use Rattle.planner.proofs.calls.comzsered_text_rating.Tie as tie
+
+rate-text-requires : tie.Need-rate-text-requires
+rate-text-requires c κs = search needs
+
+hand-out-rating-requires : tie.Need-hand-out-rating-requires
+hand-out-rating-requires c κs = search needs
+
+returns : tie.Need-returns
+returns c = ap ratingFigures (sym (c .before .before .before .before .before .before .before .rate-text .ensures)) ∙ c .hand-out-rating .ensures
+
+pub comzsered-text-rating-spec : {M : Type 1} → statement M
+comzsered-text-rating-spec =
+    tie.close (tie.spec rate-text-requires hand-out-rating-requires returns)
