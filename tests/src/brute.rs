@@ -289,7 +289,12 @@ fn line(letter: char, first: usize, second: usize, third: usize) -> String {
 
 /// What the program prints for any bytes.
 pub fn listing(bytes: &[u8]) -> String {
-    match read(bytes) {
+    listing_of(read(bytes))
+}
+
+/// What a program prints for what a reader made of its input.
+pub fn listing_of(outcome: Result<Sheet, Refusal>) -> String {
+    match outcome {
         Ok(sheet) => {
             let planner = Planner::new(sheet);
             planner.listing(&planner.run(PROGRAM_ROOM))

@@ -441,7 +441,7 @@ fn beyond_limit(r: &mut Random) -> (Vec<Row>, usize) {
 
 // ---- damage to the text of a line: its length stays
 
-fn odd_byte(r: &mut Random) -> u8 {
+pub(crate) fn odd_byte(r: &mut Random) -> u8 {
     match r.below(4) {
         0 => r.byte(),
         1 => r.pick(b"0123456789 -"),

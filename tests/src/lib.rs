@@ -9,6 +9,7 @@ pub mod options;
 pub mod oracle;
 pub mod planning;
 pub mod process;
+pub mod typed;
 
 /// The sample sheet of docs/FORMAT.md.
 pub const SAMPLE: &str = "\

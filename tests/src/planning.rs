@@ -746,15 +746,24 @@ pub fn planning_sheet(seed: u64, index: u64) -> Made {
             }
         }
     }
+    let (_, bytes, kind) = whole(r, class);
+    Made {
+        bytes,
+        kind,
+        damaged: false,
+    }
+}
+
+/// A sheet of this class that the planner can be expected to answer at once, its bytes, and what its
+/// rules are made by.
+pub(crate) fn whole(r: &mut Random, class: Class) -> (Sheet, Vec<u8>, &'static str) {
     loop {
         let (rows, kind) = rows(r, class);
         let bytes = written(&rows).concat();
-        if read(&bytes).is_ok_and(|sheet| light(&sheet)) {
-            return Made {
-                bytes,
-                kind,
-                damaged: false,
-            };
+        if let Ok(sheet) = read(&bytes) {
+            if light(&sheet) {
+                return (sheet, bytes, kind);
+            }
         }
     }
 }
