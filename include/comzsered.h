@@ -4,7 +4,8 @@
  * A planning sheet tells of switches that are set once, faults that may then occur in any
  * combination, rules that must hold whatever the faults are, and wishes about the switches. The
  * planner finds the setting of the switches that keeps every rule under every combination of faults
- * and breaks as few wishes as possible. docs/FORMAT.md describes sheets and every rule in full.
+ * and breaks as few wishes as possible. The same can be typed as a text, for which there are calls of
+ * their own. docs/FORMAT.md describes sheets, texts and every rule in full.
  *
  * Link with target/staticlib/libplanner.a, which 'rt staticlib planner' builds:
  *
@@ -27,6 +28,20 @@
  *             pattern that the candidate does not pass is added, and the search goes on. No pattern
  *             comes twice. L is the length of the list at the end.
  *
+ * Typed texts
+ *
+ *   The sheet of this text has two switches, two faults, three gates, one rule and two wishes:
+ *
+ *     switches 2
+ *     faults 2
+ *     rule (s1|s2)|(f1|f2)
+ *     wish !s1
+ *     wish !s2
+ *
+ *   In a formula ! binds before & and & before |, from the left, and brackets and nots go 32 deep at
+ *   most. Each operator makes a gate, in the order in which the operators are complete. All jobs
+ *   answer as for the sheet that the text stands for.
+ *
  * The number
  *
  *   Answer, short run and rating return a number, and write a place and a column. All three are 0
@@ -39,11 +54,12 @@
  *         2  the line is malformed, or its letter is unknown                    the line, with a
  *                                                                               column
  *         3  the letter is not allowed at this line                             the line
- *         4  the number of switches (0 to 20) or of faults (0 to 16) is out     1
- *            of its range
+ *         4  the number of switches (0 to 20) or of faults (0 to 16) is out     1; of a text 2
+ *            of its range                                                       for faults
  *         5  the line is gate 401, rule 65 or wish 65                           the line
  *         6  a point or literal is not allowed here, an unused field is not     the line
- *            0, or a literal follows a 0
+ *            0, or a literal follows a 0; of a text: there is no such switch
+ *            or fault
  *         7  the count of lines on the Z line is wrong                          the line
  *         8  there is no plan: for answer over all patterns, for short run      0
  *            over the given ones
@@ -52,6 +68,13 @@
  *        11  a given pattern is 2^f or more                                     the first such
  *                                                                               one's position,
  *                                                                               from 1
+ *        12  the text is longer than 16,384 bytes                               0
+ *            the text is not legal                                              the byte, from 1
+ *
+ *   Numbers 1, 2, 3 and 7 are not for texts, and 12 is for nothing else. The byte of 12 is the one
+ *   with which the text ceases to be the beginning of any text that is legal but for its length; if
+ *   a text ends too early, it is the one after its last. The line of 5 is then rule 65, wish 65 or
+ *   the rule with which there are more than 400 gates.
  *
  *   The column tells where the line of number 2 stops being the beginning of any well-formed line:
  *   it is the smallest c from 1 to 17 such that no well-formed line has the same first c bytes. An
@@ -59,18 +82,18 @@
  *   that 0, a space after a digit that of the space, a minus in a field's last column that of the
  *   minus, and a blank field its last column. After every other number the column is 0.
  *
- *   The causes are tried in this order, and the first that applies is returned: 1; the lines from
- *   the first, each for 2 to 7; 10 or 11; 9; 8. So 9 comes before 8: a list that is too short for
+ *   The causes are tried in this order, and the first that applies is returned: 1 or 12; the lines
+ *   from the first, each for 2 to 7; 10 or 11; 9; 8. So 9 comes before 8: a list that is too short for
  *   the search is told as 9 even where there is no plan.
  *
  * What holds for every call
  *
- *   - Any bytes may be passed as a sheet, and any numbers: wrong ones are refused. Nothing is kept
- *     from one call to the next, and calls may be made from several threads at once.
+ *   - Any bytes may be passed as a sheet or text, and any numbers: wrong ones are refused. Nothing is
+ *     kept from one call to the next, and calls may be made from several threads at once.
  *   - No pointer may be null, also where the length beside it is 0.
  *   - The figures' pointers must be valid and point to different places. All figures are written in
  *     every case; those that the outcome does not name are 0.
- *   - Buffers do not overlap each other or the figures. The sheet and the patterns are only read.
+ *   - Buffers do not overlap each other or the figures. Input and patterns are only read.
  *   - The time grows with 2^a and 2^f: a sheet with many switches and faults may take very long.
  */
 #ifndef COMZSERED_H
@@ -85,6 +108,9 @@ extern "C" {
 
 /* The longest sheet: 530 lines of 17 bytes. */
 #define COMZSERED_SHEET_MAX 9010
+
+/* The longest typed text. */
+#define COMZSERED_TEXT_MAX 16384
 
 /* The longest list: there are at most 2^16 patterns. With so many words there is no number 9. */
 #define COMZSERED_LIST_MAX 65536
@@ -157,6 +183,23 @@ uint32_t comzsered_rating(const uint8_t *sheet, size_t sheet_len, uint32_t plan,
  * untouched. If out_len is below COMZSERED_LISTING_MAX it returns 0, and all of out is untouched.
  */
 size_t comzsered_listing(const uint8_t *sheet, size_t sheet_len, uint8_t *out, size_t out_len);
+
+/*
+ * The same for a typed text. Where a sheet is refused with 1 to 7, a text is with 12, 4, 5 or 6: then
+ * the place is as in the table of numbers, all other figures are 0, and no buffer is touched. The
+ * column is always 0. Else everything is as for the sheet that the text stands for. The listing is
+ * what the program 'typed' prints.
+ */
+uint32_t comzsered_text_answer(const uint8_t *text, size_t text_len, uint32_t *list,
+                               size_t list_len, size_t *place, size_t *column, uint32_t *plan,
+                               uint32_t *cost, size_t *length);
+uint32_t comzsered_text_short_run(const uint8_t *text, size_t text_len, const uint32_t *patterns,
+                                  size_t pattern_count, size_t *place, size_t *column,
+                                  uint32_t *plan, uint32_t *cost, size_t *length);
+uint32_t comzsered_text_rating(const uint8_t *text, size_t text_len, uint32_t plan, size_t *place,
+                               size_t *column, uint32_t *cost, uint32_t *sound, uint32_t *pattern,
+                               size_t *length);
+size_t comzsered_text_listing(const uint8_t *text, size_t text_len, uint8_t *out, size_t out_len);
 
 #ifdef __cplusplus
 }

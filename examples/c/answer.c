@@ -1,13 +1,15 @@
 /*
- * Answers a planning sheet and prints the answer in words.
+ * Answers a planning sheet or a typed text and prints the answer in words.
  *
  *     answer [FILE]
  *
- * Without FILE it answers the sheet below. The exit status is 0 if the sheet was answered, also by
- * "no plan", 1 if it was refused and 2 if it could not be read.
+ * A FILE whose name ends in .text is a typed text. Without FILE it answers the sheet below. The exit
+ * status is 0 if the input was answered, also by "no plan", 1 if it was refused and 2 if it could
+ * not be read.
  */
 #include <stdio.h>
 #include <stdlib.h>
+#include <string.h>
 
 #include "comzsered.h"
 
@@ -22,12 +24,12 @@ static const char built_in[] =
     "W   -2    0    0\n"
     "Z    7    0    0\n";
 
-/* One byte more than the longest sheet, so that a file that is too long is refused. */
-static uint8_t sheet[COMZSERED_SHEET_MAX + 1];
+/* One byte more than the longest text, which is longer than any sheet: a longer file is refused. */
+static uint8_t input[COMZSERED_TEXT_MAX + 1];
 /* Room for any list. */
 static uint32_t list[COMZSERED_LIST_MAX];
 
-static size_t read_sheet(const char *name)
+static size_t read_input(const char *name)
 {
     FILE *file = fopen(name, "rb");
     size_t length;
@@ -36,7 +38,7 @@ static size_t read_sheet(const char *name)
         perror(name);
         exit(2);
     }
-    length = fread(sheet, 1, sizeof sheet, file);
+    length = fread(input, 1, sizeof input, file);
     if (ferror(file)) {
         perror(name);
         exit(2);
@@ -51,20 +53,24 @@ static size_t take_built_in(void)
     size_t i;
 
     for (i = 0; i < length; i++)
-        sheet[i] = (uint8_t)built_in[i];
+        input[i] = (uint8_t)built_in[i];
     return length;
 }
 
-/* A number of the first line of an accepted sheet: switches stand in field 0, faults in field 1. */
-static unsigned head_field(int field)
+static int is_text(const char *name)
 {
-    unsigned n = 0;
-    int i;
+    size_t length = strlen(name);
 
-    for (i = 1 + 5 * field; i < 6 + 5 * field; i++)
-        if (sheet[i] != ' ')
-            n = 10 * n + (sheet[i] - '0');
-    return n;
+    return length >= 5 && strcmp(name + length - 5, ".text") == 0;
+}
+
+/* The switches and faults of an accepted input: numbers of a sheet's first line, or those on the
+   first two lines of a text. */
+static void read_counts(int typed, unsigned *switches, unsigned *faults)
+{
+    const char *format = typed ? "switches %u faults %u" : "H%5u%5u";
+
+    sscanf((const char *)input, format, switches, faults);
 }
 
 /* Binary digit k, counted from 1 at the highest, of a number with so many digits. */
@@ -73,9 +79,8 @@ static int digit(uint32_t number, unsigned k, unsigned digits)
     return number >> (digits - k) & 1;
 }
 
-static void print_plan(uint32_t plan, uint32_t cost)
+static void print_plan(uint32_t plan, uint32_t cost, unsigned switches)
 {
-    unsigned switches = head_field(0);
     unsigned k;
 
     printf("Plan %lu, broken wishes: %lu\n", (unsigned long)plan, (unsigned long)cost);
@@ -83,9 +88,8 @@ static void print_plan(uint32_t plan, uint32_t cost)
         printf("  switch %u: %s\n", k, digit(plan, k, switches) ? "on" : "off");
 }
 
-static void print_pattern(uint32_t pattern)
+static void print_pattern(uint32_t pattern, unsigned faults)
 {
-    unsigned faults = head_field(1);
     unsigned k;
 
     printf("  pattern %lu:", (unsigned long)pattern);
@@ -99,18 +103,27 @@ static void print_pattern(uint32_t pattern)
 
 int main(int argc, char **argv)
 {
-    size_t sheet_len, place, column, length, i;
+    size_t input_len, place, column, length, i;
     uint32_t number, plan, cost;
+    unsigned switches = 0, faults = 0;
+    int typed;
 
     if (argc > 2) {
         fprintf(stderr, "usage: answer [FILE]\n");
         return 2;
     }
-    sheet_len = argc == 2 ? read_sheet(argv[1]) : take_built_in();
-    number = comzsered_answer(sheet, sheet_len, list, COMZSERED_LIST_MAX, &place, &column, &plan,
-                              &cost, &length);
+    typed = argc == 2 && is_text(argv[1]);
+    input_len = argc == 2 ? read_input(argv[1]) : take_built_in();
+    if (typed)
+        number = comzsered_text_answer(input, input_len, list, COMZSERED_LIST_MAX, &place, &column,
+                                       &plan, &cost, &length);
+    else
+        number = comzsered_answer(input, input_len, list, COMZSERED_LIST_MAX, &place, &column,
+                                  &plan, &cost, &length);
+    if (number == 0 || number == 8)
+        read_counts(typed, &switches, &faults);
     if (number == 0) {
-        print_plan(plan, cost);
+        print_plan(plan, cost, switches);
     } else if (number == 8) {
         printf("No plan passes every pattern.\n");
     } else {
@@ -123,6 +136,6 @@ int main(int argc, char **argv)
     }
     printf("Listed patterns: %lu\n", (unsigned long)length);
     for (i = 0; i < length; i++)
-        print_pattern(list[i]);
+        print_pattern(list[i], faults);
     return 0;
 }

@@ -1,13 +1,14 @@
-//! Answers a planning sheet and prints the answer in words.
+//! Answers a planning sheet or a typed text and prints the answer in words.
 //!
 //! Usage: answer [FILE]
 //!
-//! Without FILE it answers the sheet below. The exit status is 0 if the sheet was answered, also by
-//! "no plan", 1 if it was refused and 2 if it could not be read.
+//! A FILE whose name ends in .text is a typed text. Without FILE it answers the sheet below. The exit
+//! status is 0 if the input was answered, also by "no plan", 1 if it was refused and 2 if it could
+//! not be read.
 
 use std::process::ExitCode;
 
-use comzsered::{answer, Answer, Pattern, Plan, LIST_MAX};
+use comzsered::{answer, Answer, Input, Pattern, Plan, LIST_MAX};
 
 /// One of two switches or two faults must be true, and both switches are wished to be off.
 const BUILT_IN: &[u8] = b"\
@@ -23,10 +24,10 @@ Z    7    0    0
 
 fn main() -> ExitCode {
     let words: Vec<String> = std::env::args().skip(1).collect();
-    let sheet = match &words[..] {
-        [] => BUILT_IN.to_vec(),
+    let (bytes, typed) = match &words[..] {
+        [] => (BUILT_IN.to_vec(), false),
         [name] => match std::fs::read(name) {
-            Ok(bytes) => bytes,
+            Ok(bytes) => (bytes, name.ends_with(".text")),
             Err(error) => {
                 eprintln!("{name}: {error}");
                 return ExitCode::from(2);
@@ -37,14 +38,19 @@ fn main() -> ExitCode {
             return ExitCode::from(2);
         }
     };
+    let input = if typed {
+        Input::Text(&bytes)
+    } else {
+        Input::Sheet(&bytes)
+    };
     let mut list = vec![0; LIST_MAX];
-    let patterns = match answer(&sheet, &mut list) {
+    let patterns = match answer(input, &mut list) {
         Answer::Plan {
             plan,
             cost,
             patterns,
         } => {
-            print_plan(&sheet, plan, cost);
+            print_plan(input, plan, cost);
             patterns
         }
         Answer::NoPlan { patterns } => {
@@ -59,29 +65,41 @@ fn main() -> ExitCode {
     };
     println!("Listed patterns: {patterns}");
     for &word in &list[..patterns] {
-        print_pattern(&sheet, Pattern(word));
+        print_pattern(input, Pattern(word));
     }
     ExitCode::SUCCESS
 }
 
-/// A number of the first line of an accepted sheet: switches stand in field 0, faults in field 1.
-fn head_field(sheet: &[u8], field: usize) -> u32 {
-    let text = String::from_utf8_lossy(&sheet[1 + 5 * field..6 + 5 * field]);
+/// The switches and faults of an accepted input: numbers of a sheet's first line, or those on the
+/// first two lines of a text.
+fn counts(input: Input) -> [u32; 2] {
+    match input {
+        Input::Sheet(sheet) => [&sheet[1..6], &sheet[6..11]].map(number),
+        Input::Text(text) => {
+            let mut words = text.split(|byte| byte.is_ascii_whitespace());
+            // A count is the word after its keyword.
+            [(); 2].map(|()| number(words.nth(1).expect("a count")))
+        }
+    }
+}
+
+fn number(bytes: &[u8]) -> u32 {
+    let text = String::from_utf8_lossy(bytes);
     text.trim().parse().expect("a number")
 }
 
-fn print_plan(sheet: &[u8], plan: Plan, cost: u32) {
+fn print_plan(input: Input, plan: Plan, cost: u32) {
     println!("Plan {}, broken wishes: {cost}", plan.0);
-    let switches = head_field(sheet, 0);
+    let [switches, _] = counts(input);
     for k in 1..=switches {
         let state = if plan.is_on(k, switches) { "on" } else { "off" };
         println!("  switch {k}: {state}");
     }
 }
 
-fn print_pattern(sheet: &[u8], pattern: Pattern) {
+fn print_pattern(input: Input, pattern: Pattern) {
     print!("  pattern {}:", pattern.0);
-    let faults = head_field(sheet, 1);
+    let [_, faults] = counts(input);
     if pattern == Pattern(0) {
         print!(" no fault");
     }

@@ -4,6 +4,8 @@
 //! figure, as tests do. `include/comzsered.h` describes them in full. A figure that an outcome does
 //! not name is 0.
 
+use crate::Input;
+
 /// The figures of Answer and Short run.
 #[derive(Clone, Copy, Debug, PartialEq, Eq)]
 pub struct Found {
@@ -46,47 +48,41 @@ const NOT_RATED: Rated = Rated {
     length: usize::MAX,
 };
 
+/// The calls of the archive: each job has one for a sheet and one for a typed text, with the same
+/// arguments.
 mod archive {
-    extern "C" {
-        pub fn comzsered_answer(
-            sheet: *const u8,
-            sheet_len: usize,
-            list: *mut u32,
-            list_len: usize,
-            place: *mut usize,
-            column: *mut usize,
-            plan: *mut u32,
-            cost: *mut u32,
-            length: *mut usize,
-        ) -> u32;
-        pub fn comzsered_short_run(
-            sheet: *const u8,
-            sheet_len: usize,
-            patterns: *const u32,
-            pattern_count: usize,
-            place: *mut usize,
-            column: *mut usize,
-            plan: *mut u32,
-            cost: *mut u32,
-            length: *mut usize,
-        ) -> u32;
-        pub fn comzsered_rating(
-            sheet: *const u8,
-            sheet_len: usize,
-            plan: u32,
-            place: *mut usize,
-            column: *mut usize,
-            cost: *mut u32,
-            sound: *mut u32,
-            pattern: *mut u32,
-            length: *mut usize,
-        ) -> u32;
-        pub fn comzsered_listing(
-            sheet: *const u8,
-            sheet_len: usize,
-            out: *mut u8,
-            out_len: usize,
-        ) -> usize;
+    macro_rules! calls {
+        ($($job:ident: $sheet:ident, $text:ident, ($($argument:ty),*) -> $number:ty;)*) => {
+            extern "C" {
+                $(
+                    fn $sheet(_: *const u8, _: usize, $(_: $argument),*) -> $number;
+                    fn $text(_: *const u8, _: usize, $(_: $argument),*) -> $number;
+                )*
+            }
+            $(
+                /// The bytes with the call for them.
+                pub fn $job<'a>(input: crate::Input<'a>) -> (
+                    &'a [u8],
+                    unsafe extern "C" fn(*const u8, usize, $($argument),*) -> $number,
+                ) {
+                    match input {
+                        crate::Input::Sheet(sheet) => (sheet, $sheet),
+                        crate::Input::Text(text) => (text, $text),
+                    }
+                }
+            )*
+        };
+    }
+
+    // The figures stand in the order of the header.
+    calls! {
+        answer: comzsered_answer, comzsered_text_answer,
+            (*mut u32, usize, *mut usize, *mut usize, *mut u32, *mut u32, *mut usize) -> u32;
+        short_run: comzsered_short_run, comzsered_text_short_run,
+            (*const u32, usize, *mut usize, *mut usize, *mut u32, *mut u32, *mut usize) -> u32;
+        rating: comzsered_rating, comzsered_text_rating,
+            (u32, *mut usize, *mut usize, *mut u32, *mut u32, *mut u32, *mut usize) -> u32;
+        listing: comzsered_listing, comzsered_text_listing, (*mut u8, usize) -> usize;
     }
 }
 
@@ -95,13 +91,14 @@ mod archive {
 
 /// Answer. Afterwards the first `length` words of `list` are the list, and the others are as they
 /// were.
-pub fn answer(sheet: &[u8], list: &mut [u32]) -> Found {
+pub fn answer<'a>(input: impl Into<Input<'a>>, list: &mut [u32]) -> Found {
+    let (bytes, call) = archive::answer(input.into());
     let mut found = NOT_FOUND;
     // SAFETY: as above.
     found.number = unsafe {
-        archive::comzsered_answer(
-            sheet.as_ptr(),
-            sheet.len(),
+        call(
+            bytes.as_ptr(),
+            bytes.len(),
             list.as_mut_ptr(),
             list.len(),
             &mut found.place,
@@ -115,13 +112,14 @@ pub fn answer(sheet: &[u8], list: &mut [u32]) -> Found {
 }
 
 /// Short run over these patterns.
-pub fn short_run(sheet: &[u8], patterns: &[u32]) -> Found {
+pub fn short_run<'a>(input: impl Into<Input<'a>>, patterns: &[u32]) -> Found {
+    let (bytes, call) = archive::short_run(input.into());
     let mut found = NOT_FOUND;
     // SAFETY: as above.
     found.number = unsafe {
-        archive::comzsered_short_run(
-            sheet.as_ptr(),
-            sheet.len(),
+        call(
+            bytes.as_ptr(),
+            bytes.len(),
             patterns.as_ptr(),
             patterns.len(),
             &mut found.place,
@@ -135,13 +133,14 @@ pub fn short_run(sheet: &[u8], patterns: &[u32]) -> Found {
 }
 
 /// Rating of this plan.
-pub fn rating(sheet: &[u8], plan: u32) -> Rated {
+pub fn rating<'a>(input: impl Into<Input<'a>>, plan: u32) -> Rated {
+    let (bytes, call) = archive::rating(input.into());
     let mut rated = NOT_RATED;
     // SAFETY: as above.
     rated.number = unsafe {
-        archive::comzsered_rating(
-            sheet.as_ptr(),
-            sheet.len(),
+        call(
+            bytes.as_ptr(),
+            bytes.len(),
             plan,
             &mut rated.place,
             &mut rated.column,
@@ -156,7 +155,8 @@ pub fn rating(sheet: &[u8], plan: u32) -> Rated {
 
 /// The listing, written into the first bytes of `out`; returns how many they are. It is 0, and
 /// nothing is written, if `out` has fewer than [`LISTING_MAX`](crate::LISTING_MAX) bytes.
-pub fn listing(sheet: &[u8], out: &mut [u8]) -> usize {
+pub fn listing<'a>(input: impl Into<Input<'a>>, out: &mut [u8]) -> usize {
+    let (bytes, call) = archive::listing(input.into());
     // SAFETY: as above.
-    unsafe { archive::comzsered_listing(sheet.as_ptr(), sheet.len(), out.as_mut_ptr(), out.len()) }
+    unsafe { call(bytes.as_ptr(), bytes.len(), out.as_mut_ptr(), out.len()) }
 }

@@ -3,15 +3,15 @@
 //! A planning sheet tells of switches that are set once, faults that may then occur in any
 //! combination, rules that must hold whatever the faults are, and wishes about the switches. The
 //! planner finds the plan, a setting of all switches, that keeps every rule under every pattern of
-//! faults and breaks as few wishes as possible. The repository's `docs/FORMAT.md` describes sheets
-//! and every rule in full.
+//! faults and breaks as few wishes as possible. The same can be typed as a text. The repository's
+//! `docs/FORMAT.md` describes sheets, texts and every rule in full.
 //!
 //! | Job | Function | Gives |
 //! |---|---|---|
 //! | Answer | [`answer`] | the best plan that passes every pattern, and the patterns that the search needed |
 //! | Short run | [`short_run`] | the best plan that passes some given patterns |
 //! | Rating | [`rating`] | the cost of a plan, and whether it passes every pattern |
-//! | Listing | [`listing`] | the answer in lines of text, as the program `plan` prints it |
+//! | Listing | [`listing`] | the answer in lines of text, as the programs `plan` and `typed` print it |
 //!
 //! In this sheet one of two switches or two faults must be true, and both switches are wished to be
 //! off:
@@ -43,8 +43,24 @@
 //! }
 //! ```
 //!
+//! This is the same sheet as a typed text. Every function takes either, and bytes alone are a sheet:
+//!
+//! ```
+//! use comzsered::{answer, Answer, Input, Plan};
+//!
+//! let text = Input::Text(b"\
+//! switches 2\n\
+//! faults 2\n\
+//! rule (s1|s2)|(f1|f2)\n\
+//! wish !s1\n\
+//! wish !s2\n");
+//!
+//! let plan = Answer::Plan { plan: Plan(1), cost: 1, patterns: 1 };
+//! assert_eq!(answer(text, &mut [0; 16]), plan);
+//! ```
+//!
 //! The time that the jobs take grows with the number of plans and patterns, so a sheet with many
-//! switches and faults may take very long. Any bytes may be passed as a sheet: wrong ones are
+//! switches and faults may take very long. Any bytes may be passed as a sheet or text: wrong ones are
 //! refused.
 
 use std::fmt;
@@ -53,8 +69,24 @@ pub mod figures;
 
 use figures::{Found, Rated};
 
+/// What the jobs are done for: a planning sheet, or a typed text that stands for one.
+#[derive(Clone, Copy, Debug, PartialEq, Eq)]
+pub enum Input<'a> {
+    Sheet(&'a [u8]),
+    Text(&'a [u8]),
+}
+
+/// Bytes that are not said to be a text are a sheet.
+impl<'a, T: AsRef<[u8]> + ?Sized> From<&'a T> for Input<'a> {
+    fn from(sheet: &'a T) -> Input<'a> {
+        Input::Sheet(sheet.as_ref())
+    }
+}
+
 /// The bytes of the longest sheet.
 pub const SHEET_MAX: usize = 9_010;
+/// The bytes of the longest typed text.
+pub const TEXT_MAX: usize = 16_384;
 /// The words of the longest list: with so many, an answer never ends in [`Answer::NoRoom`].
 pub const LIST_MAX: usize = 65_536;
 /// The bytes of the longest listing.
@@ -97,7 +129,7 @@ fn digit(number: u32, k: u32, digits: u32) -> bool {
     number >> (digits - k) & 1 == 1
 }
 
-/// Why a sheet or a call is turned down: the number of the refusal, and where its cause is.
+/// Why a sheet, a text or a call is turned down: the number of the refusal, and where its cause is.
 ///
 /// ```
 /// use comzsered::{answer, Answer};
@@ -126,10 +158,22 @@ fn digit(number: u32, k: u32, digits: u32) -> bool {
 ///     "line 2, column 5: no well-formed line begins like this"
 /// );
 /// ```
+///
+/// Number 12 is for typed texts alone. Its place is the byte with which the text ceases to be the
+/// beginning of a legal one.
+///
+/// ```
+/// use comzsered::{answer, Answer, Input};
+///
+/// let Answer::Refused(refusal) = answer(Input::Text(b"switches 1\nfaults 01\n"), &mut [])
+/// else { panic!() };
+/// assert_eq!((refusal.number, refusal.place, refusal.column), (12, 20, 0));
+/// assert_eq!(refusal.to_string(), "byte 20: no legal text goes on like this");
+/// ```
 #[derive(Clone, Copy, Debug, PartialEq, Eq, Hash)]
 pub struct Refusal {
     pub number: u32,
-    /// A line or a position, counted from 1; 0 where there is none.
+    /// A line, a byte or a position, counted from 1; 0 where there is none.
     pub place: usize,
     /// The column, 1 to 17, at which a malformed line stops being the beginning of any well-formed
     /// one, the line feed being 17; 0 where there is none, which is after every number but 2.
@@ -158,12 +202,15 @@ impl fmt::Display for Refusal {
             9 => "the list is longer than the room lent for it",
             10 => "the plan has more binary digits than there are switches",
             11 => "the pattern has more binary digits than there are faults",
+            12 if place == 0 => "the text is longer than 16,384 bytes",
+            12 => "no legal text goes on like this",
             _ => return write!(f, "refused with number {number}, place {place}"),
         };
         match number {
             2 => write!(f, "line {place}, column {column}: {cause}"),
             3..=7 => write!(f, "line {place}: {cause}"),
             11 => write!(f, "pattern {place} of the given ones: {cause}"),
+            12 if place != 0 => write!(f, "byte {place}: {cause}"),
             _ => write!(f, "{cause}"),
         }
     }
@@ -186,7 +233,7 @@ pub enum Answer {
     /// The list would be longer than its room. All words hold the list's beginning, so `patterns`
     /// is their number; whether there is a plan is open.
     NoRoom { patterns: usize },
-    /// The sheet is turned down, and the list is as it was.
+    /// The input is turned down, and the list is as it was.
     Refused(Refusal),
 }
 
@@ -197,7 +244,7 @@ pub enum ShortRun {
     Plan { plan: Plan, cost: u32 },
     /// No plan passes the given patterns.
     NoPlan,
-    /// The sheet is turned down, or a pattern that it does not have (number 11).
+    /// The input is turned down, or a pattern that it does not have (number 11).
     Refused(Refusal),
 }
 
@@ -208,7 +255,7 @@ pub enum Rating {
     Sound { cost: u32 },
     /// The plan does not pass every pattern. This is the smallest that it does not pass.
     NotSound { cost: u32, pattern: Pattern },
-    /// The sheet is turned down, or a plan that it does not have (number 10).
+    /// The input is turned down, or a plan that it does not have (number 10).
     Refused(Refusal),
 }
 
@@ -267,10 +314,10 @@ impl From<Rated> for Rating {
     }
 }
 
-/// The best sound plan of a sheet. The patterns that the search needed, in the order in which it
+/// The best sound plan of a sheet or text. The patterns that the search needed, in the order in which it
 /// met them, are written to the beginning of `list`, which may have any length and content.
-pub fn answer(sheet: &[u8], list: &mut [u32]) -> Answer {
-    figures::answer(sheet, list).into()
+pub fn answer<'a>(input: impl Into<Input<'a>>, list: &mut [u32]) -> Answer {
+    figures::answer(input, list).into()
 }
 
 /// The best plan that passes these patterns, which may be in any order and repeated.
@@ -289,8 +336,8 @@ pub fn answer(sheet: &[u8], list: &mut [u32]) -> Answer {
 /// // Over no pattern at all the cheapest plan of all is the best.
 /// assert_eq!(short_run(sheet, &[]), ShortRun::Plan { plan: Plan(0), cost: 0 });
 /// ```
-pub fn short_run(sheet: &[u8], patterns: &[u32]) -> ShortRun {
-    figures::short_run(sheet, patterns).into()
+pub fn short_run<'a>(input: impl Into<Input<'a>>, patterns: &[u32]) -> ShortRun {
+    figures::short_run(input, patterns).into()
 }
 
 /// What a plan costs, and whether it is sound.
@@ -306,22 +353,22 @@ pub fn short_run(sheet: &[u8], patterns: &[u32]) -> ShortRun {
 /// let Rating::Refused(refusal) = rating(sheet, Plan(2)) else { panic!() };
 /// assert_eq!(refusal.number, 10);
 /// ```
-pub fn rating(sheet: &[u8], plan: Plan) -> Rating {
-    figures::rating(sheet, plan.0).into()
+pub fn rating<'a>(input: impl Into<Input<'a>>, plan: Plan) -> Rating {
+    figures::rating(input, plan.0).into()
 }
 
-/// What the program `plan` prints for this sheet: the answer with a list of 4,096 words, in lines
-/// of 17 bytes. The first line has the number, the place and the cost; after number 2 the column
-/// stands there instead of the cost.
+/// What the program `plan` prints for this sheet, or `typed` for this text: the answer with a list of
+/// 4,096 words, in lines of 17 bytes. The first line has the number, the place and the cost; after
+/// number 2 the column stands there instead of the cost.
 ///
 /// ```
 /// let sheet = b"H    0    1    0\nR    1    0    0\nZ    2    0    0\n";
 /// let printed = b"A    8    0    0\nF    1    0    0\nZ    2    0    0\n";
 /// assert_eq!(comzsered::listing(sheet), printed);
 /// ```
-pub fn listing(sheet: &[u8]) -> Vec<u8> {
+pub fn listing<'a>(input: impl Into<Input<'a>>) -> Vec<u8> {
     let mut out = vec![0; LISTING_MAX];
-    let length = figures::listing(sheet, &mut out);
+    let length = figures::listing(input, &mut out);
     out.truncate(length);
     out
 }
@@ -394,6 +441,52 @@ mod tests {
         assert_eq!(list, [77; 4]);
     }
 
+    /// A text is answered as the sheet that it stands for, in every job.
+    #[test]
+    fn texts() {
+        let text = Input::Text(b"switches 2\nfaults 2\nrule (s1|s2)|(f1|f2)\nwish !s1\nwish !s2\n");
+        let sheet = sheet(SAMPLE);
+        let (mut of_text, mut of_sheet) = ([77; 4], [77; 4]);
+        assert_eq!(answer(text, &mut of_text), answer(&sheet, &mut of_sheet));
+        assert_eq!(of_text, of_sheet);
+        for patterns in [&[][..], &[0, 3], &[3, 4]] {
+            assert_eq!(short_run(text, patterns), short_run(&sheet, patterns));
+        }
+        for plan in [0, 3, 4].map(Plan) {
+            assert_eq!(rating(text, plan), rating(&sheet, plan));
+        }
+        assert_eq!(listing(text), listing(&sheet));
+    }
+
+    #[test]
+    fn refused_texts() {
+        // The last byte is the first that is wrong.
+        let zero = Input::Text(b"switches 2\nfaults 2\nrule s1|f0");
+        let refusal = refused(12, 30);
+        let mut list = [77; 4];
+        assert_eq!(answer(zero, &mut list), Answer::Refused(refusal));
+        assert_eq!(list, [77; 4]);
+        assert_eq!(short_run(zero, &[9]), ShortRun::Refused(refusal));
+        assert_eq!(rating(zero, Plan(9)), Rating::Refused(refusal));
+        assert_eq!(listing(zero), b"A   12   30    0\nZ    1    0    0\n");
+        for (text, number, place) in [
+            (&b""[..], 12, 1),
+            (b"switches 21\nfaults 17\n", 4, 1),
+            (b"switches 20\nfaults 17\n", 4, 2),
+            (b"switches 1\nfaults 1\nrule s1\nrule s2\n", 6, 4),
+            (&[b'\n'; TEXT_MAX + 1], 12, 0),
+        ] {
+            let refusal = Answer::Refused(refused(number, place));
+            assert_eq!(answer(Input::Text(text), &mut []), refusal);
+        }
+        // A sheet is no text, and a text no sheet.
+        let sheet = sheet(SAMPLE);
+        let refusal = Answer::Refused(refused(12, 1));
+        assert_eq!(answer(Input::Text(&sheet), &mut []), refusal);
+        let refusal = Answer::Refused(refused(1, 0));
+        assert_eq!(answer(b"switches 1\nfaults 1\n", &mut []), refusal);
+    }
+
     #[test]
     fn short_runs() {
         let plan = |plan, cost| ShortRun::Plan {
@@ -459,7 +552,7 @@ Z    6    0    0
     /// Each number of Answer and Short run becomes one case and loses no figure of it.
     #[test]
     fn every_number_of_a_search() {
-        for number in 0..=12 {
+        for number in 0..=13 {
             let found = Found {
                 number,
                 place: 5,
@@ -490,7 +583,7 @@ Z    6    0    0
 
     #[test]
     fn every_number_of_a_rating() {
-        for number in 0..=12 {
+        for number in 0..=13 {
             let rated = |sound| Rated {
                 number,
                 place: 5,
@@ -532,9 +625,11 @@ Z    6    0    0
         }
         assert!(!said(10, 0).contains('0'));
         assert!(said(11, 3).starts_with("pattern 3 of the given ones: "));
+        assert_eq!(said(12, 57), "byte 57: no legal text goes on like this");
+        assert_eq!(said(12, 0), "the text is longer than 16,384 bytes");
         assert_eq!(said(99, 4), "refused with number 99, place 4");
-        let all: std::collections::BTreeSet<String> = (1..=12).map(|n| said(n, 1)).collect();
-        assert_eq!(all.len(), 12);
+        let all: std::collections::BTreeSet<String> = (1..=13).map(|n| said(n, 1)).collect();
+        assert_eq!(all.len(), 13);
     }
 
     #[test]
