@@ -3,19 +3,37 @@
 //! all plans and all patterns tried in a loop, a plan's cost looked at before its patterns.
 
 use comzsered::figures::{Found, Rated};
+use comzsered::Input;
+
+use crate::typed;
 
 const LINE: usize = 17;
 const MAX_LINES: usize = 530;
 
 /// A sheet's tables, a column for each field.
 pub struct Tables {
-    a: u32,
-    f: u32,
-    kind: Vec<u8>,
-    left: Vec<u32>,
-    right: Vec<u32>,
-    rules: Vec<u32>,
-    wishes: Vec<[i32; 3]>,
+    pub a: u32,
+    pub f: u32,
+    pub kind: Vec<u8>,
+    pub left: Vec<u32>,
+    pub right: Vec<u32>,
+    pub rules: Vec<u32>,
+    pub wishes: Vec<[i32; 3]>,
+}
+
+impl Tables {
+    /// Empty tables with room for so many gates.
+    pub fn new(gates: usize) -> Tables {
+        Tables {
+            a: 0,
+            f: 0,
+            kind: Vec::with_capacity(gates),
+            left: Vec::with_capacity(gates),
+            right: Vec::with_capacity(gates),
+            rules: Vec::with_capacity(64),
+            wishes: Vec::with_capacity(64),
+        }
+    }
 }
 
 // ---- reading
@@ -88,23 +106,22 @@ fn right_bytes(field: &[u8]) -> usize {
 }
 
 /// Number, place and column.
-type Refusal = (u32, usize, usize);
+pub type Refusal = (u32, usize, usize);
+
+fn read<'a>(input: impl Into<Input<'a>>) -> Result<Tables, Refusal> {
+    match input.into() {
+        Input::Sheet(sheet) => read_sheet(sheet),
+        Input::Text(text) => typed::read(text),
+    }
+}
 
 /// The tables, or the refusal.
-pub fn read(bytes: &[u8]) -> Result<Tables, Refusal> {
+fn read_sheet(bytes: &[u8]) -> Result<Tables, Refusal> {
     if bytes.is_empty() || bytes.len() % LINE != 0 || bytes.len() > MAX_LINES * LINE {
         return Err((1, 0, 0));
     }
     let lines = bytes.len() / LINE;
-    let mut t = Tables {
-        a: 0,
-        f: 0,
-        kind: Vec::with_capacity(lines),
-        left: Vec::with_capacity(lines),
-        right: Vec::with_capacity(lines),
-        rules: Vec::with_capacity(64),
-        wishes: Vec::with_capacity(64),
-    };
+    let mut t = Tables::new(lines);
     let mut part_before = 0;
     for (before, bytes) in bytes.chunks_exact(LINE).enumerate() {
         let place = before + 1;
@@ -310,16 +327,16 @@ fn search(t: &Tables, wishes: &impl Cost, list: &mut [u32]) -> Found {
     }
 }
 
-pub fn answer(sheet: &[u8], list: &mut [u32], masks: bool) -> Found {
-    match read(sheet) {
+pub fn answer<'a>(input: impl Into<Input<'a>>, list: &mut [u32], masks: bool) -> Found {
+    match read(input) {
         Ok(t) if masks => search(&t, &Masks::new(&t), list),
         Ok(t) => search(&t, &t.literals(), list),
         Err(refusal) => refused(refusal),
     }
 }
 
-pub fn short_run(sheet: &[u8], patterns: &[u32], masks: bool) -> Found {
-    let t = match read(sheet) {
+pub fn short_run<'a>(input: impl Into<Input<'a>>, patterns: &[u32], masks: bool) -> Found {
+    let t = match read(input) {
         Ok(t) => t,
         Err(refusal) => return refused(refusal),
     };
@@ -333,7 +350,7 @@ pub fn short_run(sheet: &[u8], patterns: &[u32], masks: bool) -> Found {
     }
 }
 
-pub fn rating(sheet: &[u8], plan: u32) -> Rated {
+pub fn rating<'a>(input: impl Into<Input<'a>>, plan: u32) -> Rated {
     let refused = |(number, place, column)| Rated {
         number,
         place,
@@ -343,7 +360,7 @@ pub fn rating(sheet: &[u8], plan: u32) -> Rated {
         pattern: 0,
         length: 0,
     };
-    let t = match read(sheet) {
+    let t = match read(input) {
         Ok(t) => t,
         Err(refusal) => return refused(refusal),
     };

@@ -8,6 +8,8 @@ mod report;
 mod rows;
 mod sheets;
 mod stack;
+mod texts;
+mod typed;
 mod worker;
 
 use std::env;

@@ -1,6 +1,7 @@
 //! What is measured: the sheets and jobs of each table.
 
 use crate::sheets::{self, Sheet};
+use crate::texts;
 use crate::worker::{Case, Job, Side};
 
 pub struct Row {
@@ -22,7 +23,8 @@ impl Row {
             family: family.to_string(),
             case: Case {
                 job,
-                sheet: sheet.bytes,
+                typed: false,
+                bytes: sheet.bytes,
             },
             a: sheet.a,
             f: sheet.f,
@@ -44,6 +46,14 @@ impl Row {
         let rated = comzsered::figures::rating(&sheet.bytes, plan);
         assert_eq!((rated.number, rated.sound), (0, 1), "the plan is not sound");
         Row::new(family, sheet, Job::Rating(plan))
+    }
+
+    /// A typed text, and the rating of a plan that it does not have: refused after the reading, if
+    /// the text itself is not.
+    fn reading(family: &str, text: Sheet) -> Row {
+        let mut row = Row::new(family, text, Job::Rating(1 << 20)).no_brute();
+        row.case.typed = true;
+        row
     }
 
     fn masks(mut self) -> Row {
@@ -110,6 +120,9 @@ pub fn families(quick: bool) -> Vec<Row> {
     let mut rows = vec![
         Row::answer("smallest", sheets::empty(0, 0)),
         Row::new("reading alone", sheets::full(1), Job::Rating(1 << 20)).no_brute(),
+        Row::reading("reading a typed text", texts::accepted(16_384)),
+        Row::reading("typed text, refused with 5", texts::crowded(16_384)),
+        Row::reading("typed text, refused with 12", texts::broken(16_384)),
         Row::answer("lane boxes", sheets::lanes(1)),
         Row::answer("lane boxes", sheets::lanes(2)),
     ];
@@ -185,6 +198,7 @@ pub fn growth(quick: bool) -> Vec<Growth> {
     let patterns = some(vec![4, 6, 8, 10, 12, 14, 16]);
     let gates = some(vec![25, 50, 100, 200, 400]);
     let digits = some(vec![2, 3, 4, 5, 6, 7, 8]);
+    let lengths = vec![2_048, 4_096, 8_192, 16_384];
     vec![
         Growth {
             title: "Short run over 8 patterns: switches",
@@ -235,6 +249,16 @@ pub fn growth(quick: bool) -> Vec<Growth> {
                         Row::answer("long list", sheets::at_least_of(8, n as u32)),
                     )
                 })
+                .collect(),
+        },
+        Growth {
+            title: "Reading a typed text, refused with 5 or, the shortest, with 10: bytes",
+            x_name: "bytes",
+            log_x: true,
+            by_length: false,
+            rows: lengths
+                .into_iter()
+                .map(|n| (n, Row::reading("typed text", texts::crowded(n))))
                 .collect(),
         },
     ]

@@ -10,7 +10,8 @@ use std::time::Duration;
 use std::{env, fs};
 
 use comzsered::figures::{self, Found, Rated};
-use planner_tests::{brute, oracle};
+use comzsered::Input;
+use planner_tests::{brute, oracle, typed};
 
 use crate::baseline;
 
@@ -54,7 +55,9 @@ pub enum Job {
 #[derive(Clone)]
 pub struct Case {
     pub job: Job,
-    pub sheet: Vec<u8>,
+    /// Whether the bytes are a typed text.
+    pub typed: bool,
+    pub bytes: Vec<u8>,
 }
 
 /// What a job gives, in the figures of the library.
@@ -66,6 +69,14 @@ enum Outcome {
 // ---- the child
 
 impl Case {
+    fn input(&self) -> Input<'_> {
+        if self.typed {
+            Input::Text(&self.bytes)
+        } else {
+            Input::Sheet(&self.bytes)
+        }
+    }
+
     fn send(&self, out: &mut impl Write) -> io::Result<()> {
         match &self.job {
             Job::Answer => write!(out, "answer")?,
@@ -77,8 +88,8 @@ impl Case {
                 }
             }
         }
-        writeln!(out, "\n{}", self.sheet.len())?;
-        out.write_all(&self.sheet)?;
+        writeln!(out, "\n{} {}", self.typed, self.bytes.len())?;
+        out.write_all(&self.bytes)?;
         out.flush()
     }
 
@@ -95,28 +106,33 @@ impl Case {
         };
         line.clear();
         input.read_line(&mut line).ok()?;
-        let mut sheet = vec![0; line.trim().parse().ok()?];
-        input.read_exact(&mut sheet).ok()?;
-        Some(Case { job, sheet })
+        let (typed, length) = line.trim().split_once(' ')?;
+        let mut bytes = vec![0; length.parse().ok()?];
+        input.read_exact(&mut bytes).ok()?;
+        Some(Case {
+            job,
+            typed: typed.parse().ok()?,
+            bytes,
+        })
     }
 }
 
 /// Does the job once.
 fn work(side: Side, case: &Case, list: &mut Vec<u32>) -> Outcome {
-    let sheet = black_box(&case.sheet[..]);
+    let input = black_box(case.input());
     let masks = side == Side::Masks;
     match (&case.job, side) {
-        (Job::Answer, Side::Ours) => Outcome::Found(figures::answer(sheet, list)),
-        (Job::ShortRun(p), Side::Ours) => Outcome::Found(figures::short_run(sheet, p)),
-        (Job::Rating(plan), Side::Ours) => Outcome::Rated(figures::rating(sheet, *plan)),
-        (_, Side::Brute) => run_brute(&case.job, sheet, list),
-        (Job::Answer, _) => Outcome::Found(baseline::answer(sheet, list, masks)),
-        (Job::ShortRun(p), _) => Outcome::Found(baseline::short_run(sheet, p, masks)),
-        (Job::Rating(plan), _) => Outcome::Rated(baseline::rating(sheet, *plan)),
+        (Job::Answer, Side::Ours) => Outcome::Found(figures::answer(input, list)),
+        (Job::ShortRun(p), Side::Ours) => Outcome::Found(figures::short_run(input, p)),
+        (Job::Rating(plan), Side::Ours) => Outcome::Rated(figures::rating(input, *plan)),
+        (_, Side::Brute) => run_brute(&case.job, input, list),
+        (Job::Answer, _) => Outcome::Found(baseline::answer(input, list, masks)),
+        (Job::ShortRun(p), _) => Outcome::Found(baseline::short_run(input, p, masks)),
+        (Job::Rating(plan), _) => Outcome::Rated(baseline::rating(input, *plan)),
     }
 }
 
-fn run_brute(job: &Job, sheet: &[u8], list: &mut Vec<u32>) -> Outcome {
+fn run_brute(job: &Job, input: Input, list: &mut Vec<u32>) -> Outcome {
     let found = |x: brute::Found| {
         Outcome::Found(Found {
             number: x.number,
@@ -127,7 +143,11 @@ fn run_brute(job: &Job, sheet: &[u8], list: &mut Vec<u32>) -> Outcome {
             length: x.length,
         })
     };
-    let planner = brute::Planner::new(oracle::read(sheet).expect("an accepted sheet"));
+    let read = match input {
+        Input::Sheet(sheet) => oracle::read(sheet),
+        Input::Text(text) => typed::read(text),
+    };
+    let planner = brute::Planner::new(read.expect("an accepted sheet"));
     match job {
         Job::Answer => {
             let run = planner.run(list.len());

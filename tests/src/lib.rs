@@ -3,6 +3,7 @@
 
 pub mod brute;
 pub mod effort;
+pub mod form;
 pub mod generate;
 pub mod malformed;
 pub mod options;

@@ -1,17 +1,17 @@
-//! Compares the planner's program with the brute force: what it prints, byte for byte.
+//! Compares a program of the planner with the brute force: what it prints, byte for byte.
 //!
-//! Usage: compare-program PROGRAM [SHEET...] [--count N] [--seed S]
+//! Usage: compare-program PROGRAM [FILE...] [--texts 1] [--count N] [--seed S]
 //!
-//! PROGRAM is run once for each of N sheets, and for each file SHEET, as its standard input. With
-//! --seed only the sheets of that seed are tried.
+//! PROGRAM is run once for each of N sheets, and for each FILE, as its standard input. With --seed
+//! only the sheets of that seed are tried. With --texts all are typed texts.
 
 use std::process::ExitCode;
 
-use planner_tests::brute::{listing, refused_listing, End, Planner};
+use planner_tests::brute::{refused_listing, End, Planner};
 use planner_tests::effort::Effort;
+use planner_tests::form::Form;
 use planner_tests::options::Options;
-use planner_tests::oracle::{read, LINE, MAX_BYTES};
-use planner_tests::planning::planning_sheet;
+use planner_tests::oracle::LINE;
 use planner_tests::process::difference;
 
 /// Sheets, unless --count says otherwise.
@@ -20,24 +20,26 @@ const COUNT: u64 = 1_500;
 const BUDGET: u64 = 100_000_000;
 const STOP_AFTER: u64 = 20;
 
-const USAGE: &str = "usage: compare-program PROGRAM [SHEET...] [--count N] [--seed S]";
+const USAGE: &str = "usage: compare-program PROGRAM [FILE...] [--texts 1] [--count N] [--seed S]";
 
 fn main() -> ExitCode {
-    let options = Options::from_command_line(&["--count", "--seed"]);
+    let options = Options::from_command_line(&[Form::OPTION, "--count", "--seed"]);
     let Some(options) = options.filter(|o| !o.words.is_empty()) else {
         eprintln!("{USAGE}");
         println!("0 passed, 1 failed");
         return ExitCode::FAILURE;
     };
+    let form = Form::asked(options.number(Form::OPTION));
     let mut tally = Tally {
         program: options.words[0].clone(),
+        form,
         passed: 0,
         failed: 0,
     };
     for name in &options.words[1..] {
         tally.try_file(name);
     }
-    for (name, bytes) in lengths() {
+    for (name, bytes) in lengths(form) {
         tally.try_bytes(name, &bytes);
     }
     tally.try_seeds(&options);
@@ -50,19 +52,21 @@ fn main() -> ExitCode {
 }
 
 /// Inputs of the lengths at which the program stops reading.
-fn lengths() -> Vec<(&'static str, Vec<u8>)> {
+fn lengths(form: Form) -> Vec<(&'static str, Vec<u8>)> {
     let filled = |length| vec![b' '; length];
+    let longest = form.longest();
     vec![
         ("no input", filled(0)),
-        ("input of the longest sheet's length", filled(MAX_BYTES)),
-        ("input of one byte more", filled(MAX_BYTES + 1)),
-        ("input of one line more", filled(MAX_BYTES + LINE)),
+        ("input of the greatest length", filled(longest)),
+        ("input of one byte more", filled(longest + 1)),
+        ("input of one line more", filled(longest + LINE)),
         ("a long input", filled(60_000)),
     ]
 }
 
 struct Tally {
     program: String,
+    form: Form,
     passed: u64,
     failed: u64,
 }
@@ -79,7 +83,7 @@ impl Tally {
     }
 
     fn try_bytes(&mut self, name: &str, bytes: &[u8]) {
-        let differs = difference(&self.program, bytes, &listing(bytes));
+        let differs = difference(&self.program, bytes, &self.form.listing(bytes));
         match &differs {
             None => println!("{name}: ok"),
             Some(text) => println!("{name}: FAIL\n{text}"),
@@ -106,8 +110,8 @@ impl Tally {
             }
             let seed = seeds[(job % seeds.len() as u64) as usize];
             let index = job / seeds.len() as u64;
-            let bytes = planning_sheet(seed, index).bytes;
-            let Some(expected) = expected(&bytes) else {
+            let bytes = self.form.made(seed, index).bytes;
+            let Some(expected) = self.expected(&bytes) else {
                 left_out += 1;
                 continue;
             };
@@ -123,18 +127,19 @@ impl Tally {
                 break;
             }
         }
-        println!("{tried} sheets, {left_out} left out as too long to answer");
+        let name = self.form.name();
+        println!("{tried} {name}, {left_out} left out as too long to answer");
     }
-}
 
-/// What the program is to print; none if its search would take too long.
-fn expected(bytes: &[u8]) -> Option<String> {
-    let sheet = match read(bytes) {
-        Ok(sheet) => sheet,
-        Err(refusal) => return Some(refused_listing(refusal)),
-    };
-    let longest = Effort::new(&sheet, BUDGET).longest_list();
-    let planner = Planner::new(sheet);
-    let run = planner.run(longest);
-    (run.end != End::Left).then(|| planner.listing(&run))
+    /// What the program is to print; none if its search would take too long.
+    fn expected(&self, bytes: &[u8]) -> Option<String> {
+        let sheet = match self.form.read(bytes) {
+            Ok(sheet) => sheet,
+            Err(refusal) => return Some(refused_listing(refusal)),
+        };
+        let longest = Effort::new(&sheet, BUDGET).longest_list();
+        let planner = Planner::new(sheet);
+        let run = planner.run(longest);
+        (run.end != End::Left).then(|| planner.listing(&run))
+    }
 }

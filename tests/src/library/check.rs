@@ -1,11 +1,12 @@
-//! All jobs on one sheet: what the library returns and writes is held to the brute force, and what
+//! All jobs on one sheet or text: what the library returns and writes is held to the brute force, and what
 //! is claimed of Answer and Short run together is tried on what the library returned.
 
-use comzsered::{figures, LISTING_MAX};
+use comzsered::{figures, Input, LISTING_MAX};
 use planner_tests::brute::{self, refused_listing, End, Found, Planner, Rated, Run};
 use planner_tests::effort::Effort;
+use planner_tests::form::Form;
 use planner_tests::generate::Random;
-use planner_tests::oracle::{read, Refusal};
+use planner_tests::oracle::Refusal;
 use planner_tests::planning::shuffle;
 
 use crate::tally::{Calls, Room};
@@ -13,8 +14,9 @@ use crate::tally::{Calls, Room};
 /// Words before and after a lent list, and bytes after a lent text, that must stay as they are.
 const GUARD: usize = 8;
 
-/// One sheet, and what came of its calls.
+/// One sheet or text, and what came of its calls.
 pub struct Check<'a> {
+    form: Form,
     bytes: &'a [u8],
     r: Random,
     pub calls: Calls,
@@ -47,19 +49,27 @@ fn rated(f: figures::Rated) -> Rated {
 
 impl<'a> Check<'a> {
     /// The random choices follow from the seed and the index, so that each check can be made again.
-    pub fn new(bytes: &'a [u8], seed: u64, index: u64) -> Check<'a> {
+    pub fn new(form: Form, bytes: &'a [u8], seed: u64, index: u64) -> Check<'a> {
         Check {
+            form,
             bytes,
-            // Not the numbers that the sheet was made from.
+            // Not the numbers that the bytes were made from.
             r: Random::new(!seed, index),
             calls: Calls::default(),
             troubles: Vec::new(),
         }
     }
 
-    /// Every job on this sheet, with so much work at most.
+    fn input(&self) -> Input<'a> {
+        match self.form {
+            Form::Sheet => Input::Sheet(self.bytes),
+            Form::Text => Input::Text(self.bytes),
+        }
+    }
+
+    /// Every job on this sheet or text, with so much work at most.
     pub fn all_jobs(&mut self, budget: u64) {
-        match read(self.bytes) {
+        match self.form.read(self.bytes) {
             Ok(sheet) => self.accepted(&Planner::new(sheet), budget),
             Err(refusal) => self.refused(refusal),
         }
@@ -96,7 +106,10 @@ impl<'a> Check<'a> {
         let mut words = self.noise(room + 2 * GUARD);
         let mut after = words.clone();
         after[GUARD..GUARD + expected.length].copy_from_slice(&list[..expected.length]);
-        let got = found(figures::answer(self.bytes, &mut words[GUARD..GUARD + room]));
+        let got = found(figures::answer(
+            self.input(),
+            &mut words[GUARD..GUARD + room],
+        ));
         self.calls.answered(&got);
         self.hold(&format!("answer, room {room}"), got, expected);
         if words != after {
@@ -114,7 +127,7 @@ impl<'a> Check<'a> {
 
     pub fn short_run(&mut self, patterns: &[u32], expected: Found) -> Found {
         let lent = patterns.to_vec();
-        let got = found(figures::short_run(self.bytes, &lent));
+        let got = found(figures::short_run(self.input(), &lent));
         self.calls.ran_short(&got);
         let what = format!("short run over {}", shown(patterns));
         self.hold(&what, got, expected);
@@ -124,7 +137,7 @@ impl<'a> Check<'a> {
     }
 
     pub fn rating(&mut self, plan: u32, expected: Rated) -> Rated {
-        let got = rated(figures::rating(self.bytes, plan));
+        let got = rated(figures::rating(self.input(), plan));
         self.calls.rated(&got);
         self.hold(&format!("rating of plan {plan}"), got, expected);
         got
@@ -136,7 +149,7 @@ impl<'a> Check<'a> {
         let mut out = vec![filling; length + GUARD];
         let mut after = out.clone();
         after[..expected.len()].copy_from_slice(expected.as_bytes());
-        let got = figures::listing(self.bytes, &mut out[..length]);
+        let got = figures::listing(self.input(), &mut out[..length]);
         self.calls.listings += 1;
         self.hold("length of the listing", got, expected.len());
         if out != after {
@@ -162,7 +175,7 @@ impl<'a> Check<'a> {
             _ => self.r.below(LISTING_MAX),
         };
         let mut out = vec![filling; length + GUARD];
-        let got = figures::listing(self.bytes, &mut out[..length]);
+        let got = figures::listing(self.input(), &mut out[..length]);
         self.calls.listings += 1;
         self.hold("length of a listing without room", got, 0);
         let untouched = out.iter().all(|&byte| byte == filling);
@@ -171,7 +184,7 @@ impl<'a> Check<'a> {
         });
     }
 
-    // ---- a refused sheet
+    // ---- a refused sheet or text
 
     fn refused(&mut self, refusal: Refusal) {
         let expected = Found::from(refusal);
@@ -191,7 +204,7 @@ impl<'a> Check<'a> {
         }
     }
 
-    // ---- an accepted sheet
+    // ---- an accepted sheet or text
 
     fn accepted(&mut self, planner: &Planner, budget: u64) {
         let mut effort = Effort::new(&planner.sheet, budget);
@@ -261,7 +274,7 @@ impl<'a> Check<'a> {
     /// What Answer gave, and Short run over what it listed. `next` is what the rule lists next,
     /// where the room ran out.
     fn pair(&mut self, answered: Found, listed: &[u32], next: Option<u32>) {
-        let short = found(figures::short_run(self.bytes, listed));
+        let short = found(figures::short_run(self.input(), listed));
         self.calls.ran_short(&short);
         if answered.number != brute::NO_ROOM {
             // A short run has no length of its own, and all else is the same.
@@ -272,7 +285,7 @@ impl<'a> Check<'a> {
             });
             return;
         }
-        let rating = rated(figures::rating(self.bytes, short.plan));
+        let rating = rated(figures::rating(self.input(), short.plan));
         self.calls.rated(&rating);
         self.claim(short.number == 0 && fails_at(rating, next), || {
             format!("after 9 the short run's plan fails at {next:?} next: {short:?}, {rating:?}")

@@ -1,14 +1,17 @@
-//! Sheets with their outcomes worked out by hand, for the brute force and the library alike.
+//! Sheets and texts with their outcomes worked out by hand, for the brute force and the library alike.
 
-use planner_tests::brute::{listing, Found, Planner, Rated};
+use planner_tests::brute::{listing_of, Found, Planner, Rated};
+use planner_tests::form::Form;
 use planner_tests::generate::sheet;
-use planner_tests::malformed::placed;
-use planner_tests::oracle::{read, Refusal};
+use planner_tests::malformed;
+use planner_tests::oracle::Refusal;
+use planner_tests::typed::places;
 use planner_tests::SAMPLE_LISTING;
 
 use crate::check::Check;
 
-/// A job on a sheet and what it gives.
+/// A job on a sheet or text and what it gives.
+#[derive(Clone)]
 enum Job {
     /// Answer with so much room: the figures and the list.
     Answer(usize, Found, Vec<u32>),
@@ -17,6 +20,7 @@ enum Job {
     Listing(String),
 }
 
+#[derive(Clone)]
 struct Example {
     name: String,
     bytes: Vec<u8>,
@@ -44,7 +48,7 @@ fn plan(plan: u32, cost: u32) -> Found {
     }
 }
 
-fn examples() -> Vec<Example> {
+fn sheets() -> Vec<Example> {
     let example = |name: &str, bytes, job| Example {
         name: name.into(),
         bytes,
@@ -197,24 +201,111 @@ fn examples() -> Vec<Example> {
 /// that would be told after it.
 fn malformed() -> Vec<Example> {
     let mut made = Vec::new();
-    for (malformed, place) in placed() {
-        let refusal = malformed.refusal(place);
-        let column = malformed.column;
-        let printed = format!("A    2{place:>5}{column:>5}\nZ    1    0    0\n");
-        for (job_name, job) in [
-            ("answer", Job::Answer(3, refusal.into(), vec![])),
-            ("short run", Job::ShortRun(vec![0, 99], refusal.into())),
-            ("rating", Job::Rating(99, refusal.into())),
-            ("listing", Job::Listing(printed)),
-        ] {
-            made.push(Example {
-                name: format!("{} at line {place}, {job_name}", malformed.why),
-                bytes: malformed.sheet(place),
-                job,
-            });
-        }
+    for (malformed, place) in malformed::placed() {
+        let name = format!("{} at line {place}", malformed.why);
+        made.extend(every_job(
+            &name,
+            malformed.sheet(place),
+            malformed.refusal(place),
+        ));
     }
     made
+}
+
+/// The four jobs on one refused sheet or text.
+fn every_job(name: &str, bytes: Vec<u8>, refusal: Refusal) -> [Example; 4] {
+    let Refusal {
+        number,
+        place,
+        column,
+    } = refusal;
+    let printed = format!("A{number:>5}{place:>5}{column:>5}\nZ    1    0    0\n");
+    [
+        ("answer", Job::Answer(3, refusal.into(), vec![])),
+        ("short run", Job::ShortRun(vec![0, 99], refusal.into())),
+        ("rating", Job::Rating(99, refusal.into())),
+        ("listing", Job::Listing(printed)),
+    ]
+    .map(|(job_name, job)| Example {
+        name: format!("{name}, {job_name}"),
+        bytes: bytes.clone(),
+        job,
+    })
+}
+
+/// Some of the examples as texts, and lane four.
+fn texts() -> Vec<Example> {
+    const E3: &str = "switches 2\nfaults 2\nrule (s1|s2)|(f1|f2)\nwish !s1\nwish !s2\n";
+    const E4: &str = "switches 0\nfaults 1\nrule f1\n";
+    const E7: &str = "switches 1\nfaults 1\nrule s1&f1 | !s1&!f1\n";
+    const MOST: &str = "switches 20\nfaults 16\n";
+    let lane_four = include_str!("../../../examples/lane-four.text");
+    let answer = |room, figures: Found, list: &[u32]| {
+        let length = list.len();
+        Job::Answer(room, Found { length, ..figures }, list.to_vec())
+    };
+    let too_large = Rated {
+        number: 10,
+        ..Rated::default()
+    };
+    let sound = Rated {
+        cost: 2,
+        sound: 1,
+        ..Rated::default()
+    };
+    let examples: Vec<(&str, &str, Job)> = vec![
+        ("E2", "switches 0\nfaults 0\n", answer(3, plan(0, 0), &[])),
+        ("E3", E3, answer(3, plan(1, 1), &[0])),
+        ("E3, no room", E3, answer(0, refused(9, 0), &[])),
+        ("E3, listing", E3, Job::Listing(SAMPLE_LISTING.into())),
+        ("E4", E4, answer(3, refused(8, 0), &[0])),
+        ("E5", E4, answer(0, refused(9, 0), &[])),
+        ("E7", E7, answer(3, refused(8, 0), &[1, 0])),
+        ("E7, room for one word", E7, answer(1, refused(9, 0), &[1])),
+        ("E10", E3, Job::ShortRun(vec![], plan(0, 0))),
+        (
+            "E10, over pattern 0",
+            E3,
+            Job::ShortRun(vec![0], plan(1, 1)),
+        ),
+        ("E11", MOST, answer(0, plan(0, 0), &[])),
+        ("E11, plan 2^20", MOST, Job::Rating(1 << 20, too_large)),
+        ("E14, plan 3", E3, Job::Rating(3, sound)),
+        ("E14, plan 4", E3, Job::Rating(4, too_large)),
+        (
+            "E14, patterns",
+            E3,
+            Job::ShortRun(vec![3, 4], refused(11, 2)),
+        ),
+        ("lane four", lane_four, answer(9, plan(7, 2), &[1, 6])),
+    ];
+    examples
+        .into_iter()
+        .map(|(name, text, job)| Example {
+            name: format!("{name}, typed"),
+            bytes: text.into(),
+            job,
+        })
+        .collect()
+}
+
+/// Every job on each text that is refused, and one that is refused after the reading on the others.
+fn placed() -> Vec<Example> {
+    let too_large = Rated {
+        number: 10,
+        ..Rated::default()
+    };
+    let examples = places::placed()
+        .into_iter()
+        .map(|case| match case.refusal() {
+            Some(refusal) => every_job(case.why, case.bytes, refusal).to_vec(),
+            None => vec![Example {
+                name: format!("{}, rating of no plan", case.why),
+                bytes: case.bytes,
+                job: Job::Rating(u32::MAX, too_large),
+            }],
+        });
+    examples.flatten().collect()
 }
 
 /// As many lines of each kind as there may be.
@@ -253,8 +344,8 @@ fn all_faults() -> String {
 }
 
 /// What the brute force gives for a job, in words, to be held to the example.
-fn brute_force(example: &Example) -> String {
-    let read = read(&example.bytes);
+fn brute_force(form: Form, example: &Example) -> String {
+    let read = form.read(&example.bytes);
     let planner = read.clone().map(Planner::new);
     match (&example.job, planner) {
         (Job::Answer(..), Err(refusal)) => format!("{:?} []", Found::from(refusal)),
@@ -267,7 +358,7 @@ fn brute_force(example: &Example) -> String {
         (Job::ShortRun(patterns, _), Ok(planner)) => format!("{:?}", planner.short_run(patterns)),
         (Job::Rating(..), Err(refusal)) => format!("{:?}", Rated::from(refusal)),
         (Job::Rating(plan, _), Ok(planner)) => format!("{:?}", planner.rating(*plan)),
-        (Job::Listing(_), _) => listing(&example.bytes),
+        (Job::Listing(_), _) => listing_of(read),
     }
 }
 
@@ -281,11 +372,15 @@ fn by_hand(job: &Job) -> String {
 }
 
 /// Tries all examples and prints one line for each. Returns how many passed and how many failed.
-pub fn try_all() -> (u64, u64) {
+pub fn try_all(form: Form) -> (u64, u64) {
     let (mut passed, mut failed) = (0, 0);
-    for example in examples().into_iter().chain(malformed()) {
-        let mut check = Check::new(&example.bytes, 0, 0);
-        let (brute, hand) = (brute_force(&example), by_hand(&example.job));
+    let examples = match form {
+        Form::Sheet => [sheets(), malformed()].concat(),
+        Form::Text => [texts(), placed()].concat(),
+    };
+    for example in examples {
+        let mut check = Check::new(form, &example.bytes, 0, 0);
+        let (brute, hand) = (brute_force(form, &example), by_hand(&example.job));
         if brute != hand {
             let trouble = format!("the brute force says {brute}, not {hand}");
             check.troubles.push(trouble);

@@ -1,11 +1,12 @@
-//! Compares the proved library with the brute force: every job on many sheets, whole and damaged.
+//! Compares the proved library with the brute force: every job on many sheets, or typed texts, whole
+//! and damaged.
 //!
-//! Usage: compare-library [--seconds T] [--count N] [--seed S] [--index I] [--trace 1]
+//! Usage: compare-library [--texts 1] [--seconds T] [--count N] [--seed S] [--index I] [--trace 1]
 //!
 //! It stops after N sheets or T seconds, whichever comes first. Without --seed it takes the sheets
 //! of all fixed seeds and of a fresh one in turn. With --index it tries that one sheet of each seed.
 //! With --trace each sheet is named before it is tried: so one that the library does not survive
-//! can be found.
+//! can be found. With --texts all this is done with typed texts.
 
 mod check;
 mod examples;
@@ -18,13 +19,15 @@ use std::thread;
 use std::time::{Duration, Instant};
 
 use check::Check;
+use planner_tests::form::Form;
 use planner_tests::options::Options;
 use planner_tests::oracle::LINE;
-use planner_tests::planning::{class, planning_sheet, Class};
+use planner_tests::planning::{class, Class};
 use tally::Calls;
 
-/// Sheets and seconds at most, unless the options say otherwise.
-const COUNT: u64 = 100_000;
+/// Sheets, texts and seconds at most, unless the options say otherwise.
+const SHEETS: u64 = 100_000;
+const TEXTS: u64 = 40_000;
 const SECONDS: u64 = 180;
 /// Fewer sheets than this, without options, are a failure: the machine or the library is too slow
 /// for the comparison to say much.
@@ -37,7 +40,7 @@ const STOP_AFTER: u64 = 20;
 const SHOWN: usize = 4;
 
 const USAGE: &str =
-    "usage: compare-library [--seconds T] [--count N] [--seed S] [--index I] [--trace 1]";
+    "usage: compare-library [--texts 1] [--seconds T] [--count N] [--seed S] [--index I] [--trace 1]";
 
 /// The gates worked out at most for the sheets of a class.
 fn budget(class: Class) -> u64 {
@@ -51,18 +54,26 @@ fn budget(class: Class) -> u64 {
 }
 
 fn main() -> ExitCode {
-    let names = ["--seconds", "--count", "--seed", "--index", "--trace"];
+    let names = [
+        Form::OPTION,
+        "--seconds",
+        "--count",
+        "--seed",
+        "--index",
+        "--trace",
+    ];
     let options = Options::from_command_line(&names).filter(|o| o.words.is_empty());
     let Some(options) = options else {
         eprintln!("{USAGE}");
         println!("0 passed, 1 failed");
         return ExitCode::FAILURE;
     };
+    let form = Form::asked(options.number(Form::OPTION));
     let mut total = Total::default();
-    (total.passed, total.failed) = examples::try_all();
+    (total.passed, total.failed) = examples::try_all(form);
     match options.number("--index") {
-        Some(index) => one_sheet(&options, index, &mut total),
-        None => many_sheets(&options, &mut total),
+        Some(index) => one_sheet(form, &options, index, &mut total),
+        None => many_sheets(form, &options, &mut total),
     }
     println!("{} passed, {} failed", total.passed, total.failed);
     if total.failed == 0 {
@@ -81,33 +92,34 @@ struct Total {
     calls: Calls,
 }
 
-fn one_sheet(options: &Options, index: u64, total: &mut Total) {
+fn one_sheet(form: Form, options: &Options, index: u64, total: &mut Total) {
     for seed in options.seeds() {
-        println!("{}", described(seed, index));
-        let troubles = try_sheet(seed, index, &mut total.calls);
+        println!("{}", described(form, seed, index));
+        let troubles = try_sheet(form, seed, index, &mut total.calls);
         println!("{}", troubles.join("\n"));
         total.add(troubles.is_empty());
     }
-    total.calls.show();
+    total.calls.show(form);
 }
 
-fn many_sheets(options: &Options, total: &mut Total) {
+fn many_sheets(form: Form, options: &Options, total: &mut Total) {
     let began = Instant::now();
-    let stopped = try_sheets(options, total);
+    let stopped = try_sheets(form, options, total);
     let calls = total.calls.all();
+    let name = form.name();
     println!(
-        "{} sheets, {calls} calls in {:.1} seconds",
+        "{} {name}, {calls} calls in {:.1} seconds",
         total.sheets,
         began.elapsed().as_secs_f64()
     );
-    total.calls.show();
+    total.calls.show(form);
     let chosen = options.number("--seed").is_some() || options.number("--count").is_some();
     if chosen || stopped {
         return;
     }
-    let mut missing = total.calls.too_rare();
+    let mut missing = total.calls.too_rare(form);
     if total.sheets < FEWEST {
-        missing = vec![format!("fewer than {FEWEST} sheets were tried")];
+        missing = vec![format!("fewer than {FEWEST} {name} were tried")];
     }
     for text in missing {
         println!("FAIL: {text}");
@@ -128,9 +140,13 @@ impl Total {
 
 /// Tries the sheets of all seeds in turn, until the count, the time or too many failures. Returns
 /// whether it was the failures.
-fn try_sheets(options: &Options, total: &mut Total) -> bool {
+fn try_sheets(form: Form, options: &Options, total: &mut Total) -> bool {
     let seeds = options.seeds();
-    let count = options.number("--count").unwrap_or(COUNT);
+    let most = match form {
+        Form::Sheet => SHEETS,
+        Form::Text => TEXTS,
+    };
+    let count = options.number("--count").unwrap_or(most);
     let seconds = options.number("--seconds").unwrap_or(SECONDS);
     let trace = options.number("--trace").is_some();
     let end = Instant::now() + Duration::from_secs(seconds);
@@ -149,11 +165,11 @@ fn try_sheets(options: &Options, total: &mut Total) -> bool {
             if trace {
                 println!("seed {seed}, index {index}");
             }
-            let troubles = try_sheet(seed, index, &mut calls);
+            let troubles = try_sheet(form, seed, index, &mut calls);
             let mut total = shared.lock().expect("no worker panics");
             total.add(troubles.is_empty());
             if !troubles.is_empty() {
-                println!("FAIL: {}", described(seed, index));
+                println!("FAIL: {}", described(form, seed, index));
                 println!("{}", troubles.join("\n"));
                 stopped.fetch_or(total.failed >= STOP_AFTER, Ordering::Relaxed);
             }
@@ -178,11 +194,12 @@ fn try_sheets(options: &Options, total: &mut Total) -> bool {
 }
 
 /// All jobs on one sheet. Returns what went wrong, the first of it.
-fn try_sheet(seed: u64, index: u64, calls: &mut Calls) -> Vec<String> {
-    let made = planning_sheet(seed, index);
-    let mut check = Check::new(&made.bytes, seed, index);
+fn try_sheet(form: Form, seed: u64, index: u64, calls: &mut Calls) -> Vec<String> {
+    let made = form.made(seed, index);
+    let mut check = Check::new(form, &made.bytes, seed, index);
     check.all_jobs(budget(class(index)));
     calls.add(&check.calls);
+    calls.made(form, &made);
     let more = check.troubles.len().saturating_sub(SHOWN);
     check.troubles.truncate(SHOWN);
     if more > 0 {
@@ -192,10 +209,16 @@ fn try_sheet(seed: u64, index: u64, calls: &mut Calls) -> Vec<String> {
 }
 
 /// A sheet with its seed and index, in such a way that every byte can be seen.
-fn described(seed: u64, index: u64) -> String {
-    let made = planning_sheet(seed, index);
-    let lines = made.bytes.chunks(LINE).map(|line| line.escape_ascii());
-    let text: Vec<String> = lines.map(|line| format!("  {line}")).collect();
+fn described(form: Form, seed: u64, index: u64) -> String {
+    let made = form.made(seed, index);
+    let lines: Vec<&[u8]> = match form {
+        Form::Sheet => made.bytes.chunks(LINE).collect(),
+        Form::Text => made.bytes.split_inclusive(|&byte| byte == b'\n').collect(),
+    };
+    let shown = lines
+        .iter()
+        .map(|line| format!("  {}", line.escape_ascii()));
+    let text: Vec<String> = shown.collect();
     format!(
         "seed {seed}, index {index} ({}), {} bytes:\n{}",
         made.kind,

@@ -1,10 +1,18 @@
-//! What came of the sheets and calls, and whether each outcome came often enough to be tested.
+//! What came of the sheets or texts and of the calls, and whether each outcome came often enough to be tested.
+
+use std::collections::BTreeMap;
 
 use planner_tests::brute::{End, Found, Planner, Rated, Run};
+use planner_tests::form::Form;
 use planner_tests::oracle::{LINE, MALFORMED};
+use planner_tests::planning::Made;
+use planner_tests::typed::generate::kinds;
+use planner_tests::typed::{depth, NOT_LEGAL};
 
 /// The numbers that a job can return: 0 and the refusals.
-const NUMBERS: usize = 12;
+const NUMBERS: usize = NOT_LEGAL as usize + 1;
+/// Those that only a sheet is refused with.
+const SHEETS_ALONE: [usize; 4] = [1, 2, 3, 7];
 
 /// How the room lent compares with the list.
 #[derive(Clone, Copy)]
@@ -75,6 +83,10 @@ pub struct Calls {
     /// Sheets whose list is as long as there are plans, and as there are patterns.
     all_plans: u64,
     all_patterns: u64,
+    /// How many texts each recipe made, how many reach the greatest depth and how many pass it.
+    kinds: BTreeMap<&'static str, u64>,
+    deepest: u64,
+    too_deep: u64,
 }
 
 fn add<const N: usize>(to: &mut [u64; N], from: &[u64; N]) {
@@ -112,7 +124,22 @@ impl Calls {
         self.all_patterns += u64::from(length == planner.patterns() as usize);
     }
 
+    /// What a text was made by, and how deep it goes.
+    pub fn made(&mut self, form: Form, made: &Made) {
+        if form == Form::Text {
+            *self.kinds.entry(made.kind).or_default() += 1;
+            let depth = depth(&made.bytes);
+            self.deepest += u64::from(depth.reached);
+            self.too_deep += u64::from(depth.passed);
+        }
+    }
+
     pub fn add(&mut self, other: &Calls) {
+        for (kind, count) in &other.kinds {
+            *self.kinds.entry(kind).or_default() += count;
+        }
+        self.deepest += other.deepest;
+        self.too_deep += other.too_deep;
         self.answers.add(&other.answers);
         self.short_runs.add(&other.short_runs);
         self.ratings.add(&other.ratings);
@@ -129,7 +156,7 @@ impl Calls {
         self.answers.all() + self.short_runs.all() + self.ratings.all() + self.listings
     }
 
-    pub fn show(&self) {
+    pub fn show(&self, form: Form) {
         println!("number   answers  short runs   ratings");
         for number in 0..NUMBERS {
             println!(
@@ -139,24 +166,24 @@ impl Calls {
                 self.ratings.numbers[number]
             );
         }
-        println!("column   answers  short runs   ratings, all with number {MALFORMED}");
-        for before in 0..LINE {
-            println!(
-                "{:>6}  {:>8}  {:>10}  {:>8}",
-                before + 1,
-                self.answers.columns[before],
-                self.short_runs.columns[before],
-                self.ratings.columns[before]
-            );
+        match form {
+            Form::Sheet => self.show_columns(),
+            Form::Text => self.show_kinds(),
         }
         println!(
             "sound plans rated: {}, listings: {}",
             self.sound, self.listings
         );
         for (name, rooms) in Room::NAMES.iter().zip(self.rooms) {
-            println!("answers of accepted sheets with room, {name}: {rooms}");
+            println!(
+                "answers of accepted {} with room, {name}: {rooms}",
+                form.name()
+            );
         }
-        println!("list of at least  sheets with a plan  without one");
+        println!(
+            "list of at least   {} with a plan  without one",
+            form.name()
+        );
         for (k, at_least) in LENGTHS.iter().enumerate() {
             let (plans, none) = (self.plans[k], self.no_plans[k]);
             println!("{at_least:>16}  {plans:>18}  {none:>11}");
@@ -167,8 +194,31 @@ impl Calls {
         );
     }
 
+    fn show_columns(&self) {
+        println!("column   answers  short runs   ratings, all with number {MALFORMED}");
+        for before in 0..LINE {
+            println!(
+                "{:>6}  {:>8}  {:>10}  {:>8}",
+                before + 1,
+                self.answers.columns[before],
+                self.short_runs.columns[before],
+                self.ratings.columns[before]
+            );
+        }
+    }
+
+    fn show_kinds(&self) {
+        for (kind, texts) in &self.kinds {
+            println!("{texts:>6} texts: {kind}");
+        }
+        println!(
+            "texts that go as deep as may be: {}, and deeper: {}",
+            self.deepest, self.too_deep
+        );
+    }
+
     /// What hardly came was hardly tested: each such outcome, in words.
-    pub fn too_rare(&self) -> Vec<String> {
+    pub fn too_rare(&self, form: Form) -> Vec<String> {
         let mut rare = Vec::new();
         let mut at_least = |fewest: u64, came: u64, what: String| {
             if came < fewest {
@@ -182,6 +232,8 @@ impl Calls {
                 9 => (1_000, 0, 0),
                 10 => (0, 0, 1_000),
                 11 => (0, 1_000, 0),
+                n if form == Form::Text && SHEETS_ALONE.contains(&n) => (0, 0, 0),
+                12 if form == Form::Sheet => (0, 0, 0),
                 // A sheet of 401 gates, 65 rules or 65 wishes comes from one recipe only.
                 5 => (50, 50, 50),
                 _ => (200, 200, 200),
@@ -194,11 +246,20 @@ impl Calls {
                 at_least(fewest, outcomes.numbers[number], format!("{job} {number}"));
             }
         }
-        for (job, outcomes) in [
+        if form == Form::Text {
+            for kind in kinds() {
+                let texts = self.kinds.get(kind).copied().unwrap_or(0);
+                at_least(200, texts, format!("a text of the recipe '{kind}'"));
+            }
+            at_least(200, self.deepest, "the greatest depth".into());
+            at_least(200, self.too_deep, "a greater depth".into());
+        }
+        let columns = [
             ("answer", &self.answers),
             ("short run", &self.short_runs),
             ("rating", &self.ratings),
-        ] {
+        ];
+        for (job, outcomes) in columns.iter().filter(|_| form == Form::Sheet) {
             for (before, &came) in outcomes.columns.iter().enumerate() {
                 let column = before + 1;
                 at_least(20, came, format!("{job} {MALFORMED}, column {column}"));
