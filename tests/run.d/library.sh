@@ -1,5 +1,5 @@
 #!/bin/sh
-# The proved library with its header, its binding and its examples, and the planner's program:
+# The proved library with its header, its binding and its examples, and the planner's programs:
 # what they give is held to stored files and to the brute force.
 # The last line is 'N passed, M failed'; the exit status is 0 exactly if M is 0.
 set -u
@@ -32,7 +32,9 @@ trap 'rm -rf "$work"' EXIT
 trap 'fail "interrupted"; finish' HUP INT TERM
 
 archive=$root/target/staticlib/libplanner.a
-program=$root/target/bin/plan
+# The programs for sheets and for typed texts.
+plan=$root/target/bin/plan
+typed=$root/target/bin/typed
 # The archive of this repository is meant, whatever the caller's own settings are.
 unset COMZSERED_LIB_DIR
 
@@ -137,18 +139,18 @@ else
 fi
 one_test "the header's calls are the archive's" same_calls
 
-# ---- the program's stored runs
+# ---- the programs' stored runs
 
-# Tries the program on each sheet of tests/runs/ and says which listing is not the stored one, byte
-# for byte.
-stored_runs() {
+# Tries a program on each input of tests/runs/ of its form and says which listing is not the stored
+# one, byte for byte.
+stored_runs() { # PROGRAM FORM
     n=0
     m=0
-    for sheet in tests/runs/*.sheet; do
-        if limited 60 "$program" <"$sheet" | cmp - "${sheet%.sheet}.expected"; then
+    for input in tests/runs/*."$2"; do
+        if limited 60 "$1" <"$input" | cmp - "${input%."$2"}.expected"; then
             n=$((n + 1))
         else
-            echo "FAILED: $sheet"
+            echo "FAILED: $input"
             m=$((m + 1))
         fi
     done
@@ -156,22 +158,38 @@ stored_runs() {
     [ "$m" -eq 0 ]
 }
 
-if [ -x "$program" ]; then
-    counted "the program's stored runs" stored_runs
+# The examples that there are in both forms are answered alike.
+same_listings() {
+    for name in sample lane-four; do
+        limited 60 "$plan" <"examples/$name.sheet" >"$work/sheet" &&
+            limited 60 "$typed" <"examples/$name.text" >"$work/text" &&
+            cmp "$work/sheet" "$work/text" || return 1
+    done
+}
+
+if [ -x "$plan" ]; then
+    counted "the stored runs of plan" stored_runs "$plan" sheet
 else
-    fail "the stored runs were not tried, as there is no target/bin/plan"
+    fail "the stored runs of plan were not tried, as there is no target/bin/plan"
+fi
+if [ -x "$typed" ]; then
+    counted "the stored runs of typed" stored_runs "$typed" text
+    one_test "the examples as sheets and as texts" same_listings
+else
+    fail "the stored runs of typed were not tried, as there is no target/bin/typed"
 fi
 
 # ---- the examples
 
-# What an example program prints for its own sheet and for those of examples/.
+# What an example program prints for its own sheet and for files of examples/.
 example_output() { # PROGRAM
-    for name in '' sample redundant-box no-plan malformed; do
+    for name in '' sample.sheet redundant-box.sheet no-plan.sheet malformed.sheet \
+        sample.text lane-four.text malformed.text; do
         echo "== ${name:-built in}"
         if [ -z "$name" ]; then
             limited 60 "$1" 2>&1
         else
-            limited 60 "$1" "examples/$name.sheet" 2>&1
+            limited 60 "$1" "examples/$name" 2>&1
         fi
         echo "exit status $?"
     done
@@ -212,12 +230,20 @@ if [ "$status" -ne 0 ]; then
 fi
 
 counted "the library against the brute force" limited 1200 "$built/release/compare-library"
-if [ -x "$program" ]; then
-    # The run that ends in 9 takes the brute force too long.
-    counted "the program against the brute force" \
-        limited 1200 "$built/release/compare-program" "$program" examples/*.sheet tests/runs/[0-8]*.sheet
+counted "the library against the brute force, typed texts" \
+    limited 1200 "$built/release/compare-library" --texts 1
+# The runs that end in 9 take the brute force too long.
+if [ -x "$plan" ]; then
+    counted "plan against the brute force" \
+        limited 1200 "$built/release/compare-program" "$plan" examples/*.sheet tests/runs/[0-8]*.sheet
 else
-    fail "the program was not compared, as there is no target/bin/plan"
+    fail "plan was not compared, as there is no target/bin/plan"
+fi
+if [ -x "$typed" ]; then
+    counted "typed against the brute force" limited 1200 "$built/release/compare-program" "$typed" \
+        examples/*.text tests/runs/typed-[0-8]*.text --texts 1
+else
+    fail "typed was not compared, as there is no target/bin/typed"
 fi
 
 finish
