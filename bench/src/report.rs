@@ -7,7 +7,8 @@ use std::process::Command;
 use std::time::Instant;
 use std::{env, fs};
 
-use comzsered::figures;
+use comzsered::{figures, Input};
+use planner_tests::form::Form;
 
 use crate::agree::agree;
 use crate::baseline;
@@ -16,6 +17,7 @@ use crate::plot::{svg, Panel};
 use crate::rows::{self, Row};
 use crate::sheets::{self, Sheet};
 use crate::stack;
+use crate::texts;
 use crate::worker::{Job, Side};
 
 /// The stack that Rating should use at most.
@@ -211,6 +213,18 @@ fn rating_stack(name: &str, sheet: &Sheet) -> Vec<String> {
     stack_row(name, ours, Some(plain))
 }
 
+/// The same for a typed text.
+fn text_stack(name: &str, text: &Sheet) -> Vec<String> {
+    let (plan, for_ours, for_plain) = (text.plan, text.bytes.clone(), text.bytes.clone());
+    let ours = stack::used(move || {
+        black_box(figures::rating(Input::Text(&for_ours), plan));
+    });
+    let plain = stack::used(move || {
+        black_box(baseline::rating(Input::Text(&for_plain), plan));
+    });
+    stack_row(name, ours, Some(plain))
+}
+
 fn answer_stack(name: &str, sheet: &Sheet) -> Vec<String> {
     let (for_ours, for_plain) = (sheet.bytes.clone(), sheet.bytes.clone());
     let mut ours_list = vec![0; comzsered::LIST_MAX];
@@ -254,6 +268,10 @@ fn stacks() -> String {
             &rated,
         ),
         rating_stack("Rating, chain of 400 ands", &ands),
+        text_stack(
+            "Rating, typed text with a chain of 400 ands",
+            &texts::ands(),
+        ),
         answer_stack("Answer, random trees", &trees),
         answer_stack("Answer, chain of 400 ands", &ands),
         short_run_stack("Short run, chain of 400 ands", &ands),
@@ -321,9 +339,12 @@ pub fn whole(quick: bool) -> Result<(), String> {
     run.say("Times are medians of the processor time of samples taken by turns; a ratio is ours / baseline. README.md tells more.");
     run.say("");
 
-    let agreed = agree(if quick { 2_000 } else { 20_000 })?;
+    let count = if quick { 2_000 } else { 20_000 };
+    let sheets = agree(Form::Sheet, count)?;
+    let texts = agree(Form::Text, count)?;
     run.say(&format!(
-        "Before the timing, both sides gave the same outcomes on {agreed} generated sheets, a quarter of them damaged."
+        "Before the timing, both sides gave the same outcomes on {sheets} generated sheets, a quarter of them damaged, and \
+         on {texts} generated typed texts, four in ten of which are refused."
     ));
     run.say("");
 
@@ -402,7 +423,9 @@ pub fn whole(quick: bool) -> Result<(), String> {
     run.say("## How time grows");
     run.say("");
     if !quick {
-        run.say("![Time against switches, faults, gates and list length](growth.svg)");
+        run.say(
+            "![Time against switches, faults, gates, list length and bytes of a text](growth.svg)",
+        );
         run.say("");
     }
     let mut panels = Vec::new();

@@ -252,13 +252,13 @@ pub fn growth(quick: bool) -> Vec<Growth> {
                 .collect(),
         },
         Growth {
-            title: "Reading a typed text, refused with 5 or, the shortest, with 10: bytes",
+            title: "Reading a typed text, wrong at its last byte: bytes",
             x_name: "bytes",
             log_x: true,
             by_length: false,
             rows: lengths
                 .into_iter()
-                .map(|n| (n, Row::reading("typed text", texts::crowded(n))))
+                .map(|n| (n, Row::reading("typed text", texts::broken(n))))
                 .collect(),
         },
     ]

@@ -91,7 +91,7 @@ impl Draft {
 pub fn accepted(length: usize) -> Sheet {
     let r = &mut Random::new(1, 8);
     let mut draft = Draft::new(length);
-    let wishes = MAX_WISHES * 18;
+    let wishes = MAX_WISHES * 19;
     for rule in 0..MAX_RULES {
         // The bytes for each rule that is still to come, and for each of its five operands.
         let share = (draft.left() - wishes) / (MAX_RULES - rule) - 6;
@@ -101,7 +101,7 @@ pub fn accepted(length: usize) -> Sheet {
     for _ in 0..MAX_WISHES {
         draft.wish(r);
     }
-    assert!(draft.gates <= MAX_GATES && draft.rules == MAX_RULES);
+    assert!(draft.gates <= MAX_GATES && draft.rules == MAX_RULES && draft.wishes == MAX_WISHES);
     draft.done()
 }
 
@@ -122,4 +122,25 @@ pub fn broken(length: usize) -> Sheet {
     sheet.bytes.pop();
     sheet.bytes.push(b'?');
     sheet
+}
+
+/// A chain of ands as deep in brackets and nots as may be: the deepest recursion of a reader, and of
+/// the gates. The plan to be rated has its first switch on.
+pub fn ands() -> Sheet {
+    let deep = "(!(!".repeat(8);
+    let ands = "&s1".repeat(MAX_GATES - 16);
+    let mut draft = Draft::new(0);
+    draft.text = format!(
+        "switches 4\nfaults 4\nrule {deep}s1{}{ands}\n",
+        "))".repeat(8)
+    );
+    draft.length = draft.text.len();
+    draft.gates = MAX_GATES;
+    draft.rules = 1;
+    Sheet {
+        plan: 0b1000,
+        a: 4,
+        f: 4,
+        ..draft.done()
+    }
 }
