@@ -1,6 +1,7 @@
 //! The two forms of input: for each the second reader, and what is generated.
 
 use crate::brute::listing_of;
+use crate::options::Options;
 use crate::oracle::{self, Refusal, Sheet};
 use crate::planning::{planning_sheet, Made};
 use crate::typed::generate::typed_text;
@@ -13,11 +14,11 @@ pub enum Form {
 }
 
 impl Form {
-    /// The option --texts asks for texts, whatever its number.
+    /// The option that asks for texts, whatever its number.
     pub const OPTION: &'static str = "--texts";
 
-    pub fn asked(texts: Option<u64>) -> Form {
-        match texts {
+    pub fn asked(options: &Options) -> Form {
+        match options.number(Form::OPTION) {
             Some(_) => Form::Text,
             None => Form::Sheet,
         }

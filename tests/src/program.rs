@@ -29,7 +29,7 @@ fn main() -> ExitCode {
         println!("0 passed, 1 failed");
         return ExitCode::FAILURE;
     };
-    let form = Form::asked(options.number(Form::OPTION));
+    let form = Form::asked(&options);
     let mut tally = Tally {
         program: options.words[0].clone(),
         form,

@@ -68,7 +68,7 @@ fn main() -> ExitCode {
         println!("0 passed, 1 failed");
         return ExitCode::FAILURE;
     };
-    let form = Form::asked(options.number(Form::OPTION));
+    let form = Form::asked(&options);
     let mut total = Total::default();
     (total.passed, total.failed) = examples::try_all(form);
     match options.number("--index") {

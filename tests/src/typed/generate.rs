@@ -376,8 +376,8 @@ fn long(r: &mut Random) -> Vec<u8> {
     let length = length as usize;
     let mut draft = sizes(r);
     draft.switches = draft.switches.max(1);
-    // Operands in many brackets, so that there are few gates.
-    let brackets = r.between(16, LEGAL.deepest as i32) as usize;
+    // Operands in many brackets, so that there are few gates. Joining them takes some more.
+    let brackets = r.between(16, LEGAL.deepest as i32 - 4) as usize;
     let spaces = r.pick(&[NEVER, ALWAYS]);
     let bytes_of_operand = if spaces == NEVER { 2 } else { 4 } * brackets + 4;
     let rules = r.pick(&[20, 40, 50, 90]);

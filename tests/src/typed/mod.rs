@@ -73,11 +73,11 @@ fn value(bytes: &[u8], manner: Manner) -> Value {
     let text = std::str::from_utf8(bytes).expect("a legal text");
     let said = |keyword: &'static str| {
         let lines = text.lines();
-        lines.filter_map(move |line| line.strip_prefix(keyword)?.strip_prefix(' '))
+        lines.filter_map(move |line| Some(line.strip_prefix(keyword)?.trim()))
     };
     let count = |keyword| -> u32 {
         let written = said(keyword).next().expect("a count");
-        written.trim_end().parse().expect("a number")
+        written.parse().expect("a number")
     };
     Value {
         switches: count("switches"),
@@ -154,13 +154,12 @@ fn all_there(formula: &Formula, sheet: &Sheet) -> bool {
 
 fn add_rule(sheet: &mut Sheet, formula: &Formula) {
     let before = sheet.points() as u32;
-    let (switches, faults) = (sheet.switches, sheet.faults);
+    let switches = sheet.switches;
     let point = |operand| match operand {
         Operand::Switch(k) => k,
         Operand::Fault(k) => switches + k,
         Operand::Operator(k) => before + k as u32 + 1,
     };
-    debug_assert!(before >= switches + faults);
     sheet.gates.extend(formula.operators.iter().map(|o| Gate {
         kind: match o.sign {
             b'!' => b'N',
@@ -251,6 +250,52 @@ mod tests {
                 assert_eq!(reach.shared, length.min(shared), "index {index}, {length}");
             }
         }
+    }
+
+    /// Whether some text begins so, by trying: the word under way is ended in each way that there
+    /// is, and the open brackets of the line are closed.
+    fn can_go_on(beginning: &[u8]) -> bool {
+        let line = beginning
+            .rsplit(|&byte| byte == b'\n')
+            .next()
+            .unwrap_or(b"");
+        let count = |bracket| line.iter().filter(|&&byte| byte == bracket).count();
+        let close = ")".repeat(count(b'(').saturating_sub(count(b')'))) + "\n";
+        let (rule, and) = (format!("rule s1{close}"), format!("&s1{close}"));
+        ["switches 0\nfaults 0\n", &rule, &and, "wish s1\n"]
+            .iter()
+            .any(|end| {
+                (0..=end.len()).any(|from| {
+                    let text = [beginning, end[from..].as_bytes()].concat();
+                    right_grammar().reach(&text).legal
+                })
+            })
+    }
+
+    #[test]
+    fn places_by_trying() {
+        let mut tried = 0;
+        for index in 0..3_000 {
+            let bytes = typed_text(6, index).bytes;
+            let outcome = read(&bytes);
+            let Err(Refusal {
+                number: NOT_LEGAL,
+                place: 1..,
+                ..
+            }) = outcome
+            else {
+                continue;
+            };
+            let shared = outcome.unwrap_err().place - 1;
+            if shared > 2_000 {
+                continue;
+            }
+            tried += 1;
+            assert!(can_go_on(&bytes[..shared]), "index {index}");
+            let ends_there = shared == bytes.len();
+            assert!(ends_there || !can_go_on(&bytes[..=shared]), "index {index}");
+        }
+        assert!(tried >= 500, "{tried}");
     }
 
     #[test]

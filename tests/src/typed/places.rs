@@ -1,5 +1,6 @@
-//! Texts that are refused, each with its number and place worked out by hand. The two parts of a
-//! text meet at the byte with which it ceases to be the beginning of a legal one.
+//! Texts with their outcomes worked out by hand: accepted, or refused with a number and a place. A
+//! text that is not legal stands here in two parts, which meet where it ceases to be the beginning of
+//! a legal one.
 
 use super::{MAX_TEXT, NOT_LEGAL};
 use crate::oracle::{Refusal, BAD_FIELD, BAD_SIZE, TOO_MANY};
@@ -28,7 +29,7 @@ impl Placed {
 /// more than its column.
 const HEAD: &str = "switches 3\nfaults 2\n";
 
-/// Texts without a head of their own, and the part of them that a legal text shares.
+/// Lines after the head: the part of them that a legal text shares, and the rest.
 #[rustfmt::skip]
 const LINES: &[(&str, &str, &str)] = &[
     ("a line feed at once", "", "\n"),
@@ -99,7 +100,7 @@ const LINES: &[(&str, &str, &str)] = &[
     ("a keyword that is not ended", "wis", ""),
 ];
 
-/// Whole texts, and the part of them that a legal text shares.
+/// Whole texts: the part of them that a legal text shares, and the rest.
 #[rustfmt::skip]
 const TEXTS: &[(&str, &str, &str)] = &[
     ("the empty text", "", ""),
@@ -123,7 +124,7 @@ const TEXTS: &[(&str, &str, &str)] = &[
     ("capitals", "", "SWITCHES 3\nFAULTS 2\n"),
 ];
 
-/// Legal texts that are refused or accepted for what they say: lines after the head.
+/// Lines after the head that are accepted, or refused for what they say.
 #[rustfmt::skip]
 const SAID: &[(&str, &str, u32, usize)] = &[
     ("nothing but a head", "", 0, 0),
@@ -177,140 +178,65 @@ pub fn placed() -> Vec<Placed> {
 }
 
 /// Texts with many lines, deep nests or large counts.
+#[rustfmt::skip]
 fn long_ones() -> Vec<(&'static str, String, u32, usize)> {
-    let deep = |open: &str, n: usize, close: &str| {
-        format!("{HEAD}rule {}s1{}\n", open.repeat(n), close.repeat(n))
+    let text = |lines: &str| format!("{HEAD}{lines}");
+    let deep = |open: &str, n, close: &str| {
+        text(&format!("rule {}s1{}\n", open.repeat(n), close.repeat(n)))
     };
-    let rules = |n: usize| HEAD.to_string() + &"rule s1\n".repeat(n);
-    let wishes = |n: usize| HEAD.to_string() + &"wish s1\n".repeat(n);
-    // A rule with so many gates: 7 + 3 bytes for each.
-    let gates = |n: usize| format!("rule s1{}\n", "&s1".repeat(n));
-    let counts = |a: u32, f: u32| format!("switches {a}\nfaults {f}\n");
+    let endless = |sign: &str| text(&format!("rule {}", sign.repeat(MAX_TEXT - 25)));
+    let rules = |n| "rule s1\n".repeat(n);
+    let wishes = |n| "wish s1\n".repeat(n);
+    let gates = |n| format!("rule s1{}\n", "&s1".repeat(n));
+    let counts = |a: u32, f: u32, lines: &str| format!("switches {a}\nfaults {f}\n{lines}");
     // The 33rd stands after the head, "rule " and 32 others.
     let too_deep = 20 + 5 + 33;
+    // Each time 32 nots, a switch and a sign; then a bracket, and the 32nd not after it.
+    let too_deep_at_last = 20 + 5 + 35 + 35 + 1 + 32;
+    let nots = "!".repeat(32);
     vec![
         ("32 brackets", deep("(", 32, ")"), 0, 0),
         ("33 brackets", deep("(", 33, ")"), NOT_LEGAL, too_deep),
         ("32 nots", deep("!", 32, ""), 0, 0),
         ("33 nots", deep("!", 33, ""), NOT_LEGAL, too_deep),
         ("32 nots and brackets", deep("!(", 16, ")"), 0, 0),
+        ("34 nots and brackets", deep("(!", 17, ")"), NOT_LEGAL, too_deep),
+        ("33 nots and spaces", deep("! ", 33, ""), NOT_LEGAL, 20 + 5 + 65),
+        ("nots that are done count no more", text(&format!("rule {nots}s1&{nots}s2\n")), 0, 0),
         (
-            "34 nots and brackets",
-            deep("(!", 17, ")"),
+            "nots that are done, and a bracket that is not",
+            text(&format!("rule {nots}s1&{nots}s2|({nots}s3)\n")),
             NOT_LEGAL,
-            too_deep,
+            too_deep_at_last,
         ),
-        (
-            "33 nots and spaces",
-            deep("! ", 33, ""),
-            NOT_LEGAL,
-            20 + 5 + 65,
-        ),
-        (
-            "32 nots, done, and 32 again",
-            format!("{HEAD}rule {0}s1&{0}s2|({0}s3\n", "!".repeat(32)),
-            NOT_LEGAL,
-            // Two times 32 nots, a switch and a sign; a bracket, and the 32nd not after it.
-            20 + 5 + 35 + 35 + 1 + 32,
-        ),
-        (
-            "brackets without an end",
-            format!("{HEAD}rule {}", "(".repeat(MAX_TEXT - 25)),
-            NOT_LEGAL,
-            too_deep,
-        ),
-        (
-            "nots without an end",
-            format!("{HEAD}rule {}", "!".repeat(MAX_TEXT - 25)),
-            NOT_LEGAL,
-            too_deep,
-        ),
-        ("20 switches, 16 faults", counts(20, 16), 0, 0),
-        ("no switches, no faults", counts(0, 0), 0, 0),
-        (
-            "a rule without switches",
-            counts(0, 0) + "rule s1\n",
-            BAD_FIELD,
-            3,
-        ),
-        ("21 switches", counts(21, 16), BAD_SIZE, 1),
-        ("17 faults", counts(20, 17), BAD_SIZE, 2),
-        ("99 switches and faults", counts(99, 99), BAD_SIZE, 1),
-        (
-            "99 faults, and a rule",
-            counts(3, 99) + "rule s4\n",
-            BAD_SIZE,
-            2,
-        ),
-        ("64 rules", rules(64), 0, 0),
-        ("65 rules", rules(65), TOO_MANY, 67),
-        ("66 rules", rules(66), TOO_MANY, 67),
-        (
-            "65 rules, the last at fault twice",
-            rules(64) + "rule s4\n",
-            TOO_MANY,
-            67,
-        ),
-        (
-            "65 rules, the second at fault",
-            HEAD.to_string() + "rule s1\nrule s4\n" + &rules(63)[20..],
-            BAD_FIELD,
-            4,
-        ),
-        ("64 wishes", wishes(64), 0, 0),
-        ("65 wishes", wishes(65), TOO_MANY, 67),
-        (
-            "64 wishes and one of switch 4",
-            wishes(64) + "wish s4\n",
-            TOO_MANY,
-            67,
-        ),
-        ("400 gates", HEAD.to_string() + &gates(400), 0, 0),
-        ("401 gates", HEAD.to_string() + &gates(401), TOO_MANY, 3),
-        (
-            "401 gates in two rules",
-            HEAD.to_string() + &gates(399) + &gates(2),
-            TOO_MANY,
-            4,
-        ),
-        (
-            "400 gates, then switches alone",
-            HEAD.to_string() + &gates(400) + "rule s2\n",
-            0,
-            0,
-        ),
-        (
-            "400 gates and a not",
-            HEAD.to_string() + &gates(400) + "rule !s2\n",
-            TOO_MANY,
-            4,
-        ),
-        (
-            "401 gates and switch 4",
-            HEAD.to_string() + &gates(400) + "rule !s4\n",
-            TOO_MANY,
-            4,
-        ),
+        ("brackets without an end", endless("("), NOT_LEGAL, too_deep),
+        ("nots without an end", endless("!"), NOT_LEGAL, too_deep),
+        ("20 switches, 16 faults", counts(20, 16, ""), 0, 0),
+        ("no switches, no faults", counts(0, 0, ""), 0, 0),
+        ("a rule without switches", counts(0, 0, "rule s1\n"), BAD_FIELD, 3),
+        ("21 switches", counts(21, 16, ""), BAD_SIZE, 1),
+        ("17 faults", counts(20, 17, ""), BAD_SIZE, 2),
+        ("99 switches and faults", counts(99, 99, ""), BAD_SIZE, 1),
+        ("99 faults, and a rule", counts(3, 99, "rule s4\n"), BAD_SIZE, 2),
+        ("64 rules", text(&rules(64)), 0, 0),
+        ("65 rules", text(&rules(65)), TOO_MANY, 67),
+        ("66 rules", text(&rules(66)), TOO_MANY, 67),
+        ("rule 65 of switch 4", text(&(rules(64) + "rule s4\n")), TOO_MANY, 67),
+        ("rule 2 of switch 4, then 65", text(&(rules(1) + "rule s4\n" + &rules(63))), BAD_FIELD, 4),
+        ("64 wishes", text(&wishes(64)), 0, 0),
+        ("65 wishes", text(&wishes(65)), TOO_MANY, 67),
+        ("wish 65 of switch 4", text(&(wishes(64) + "wish s4\n")), TOO_MANY, 67),
+        ("400 gates", text(&gates(400)), 0, 0),
+        ("401 gates", text(&gates(401)), TOO_MANY, 3),
+        ("401 gates in two rules", text(&(gates(399) + &gates(2))), TOO_MANY, 4),
+        ("400 gates, then a switch", text(&(gates(400) + "rule s2\n")), 0, 0),
+        ("400 gates, then a not", text(&(gates(400) + "rule !s2\n")), TOO_MANY, 4),
+        ("400 gates, then a not of switch 4", text(&(gates(400) + "rule !s4\n")), TOO_MANY, 4),
         ("16,384 bytes", of_length(MAX_TEXT, ")\n"), 0, 0),
+        ("16,384 bytes, the last one wrong", of_length(MAX_TEXT, "))"), NOT_LEGAL, 16_384),
+        ("16,384 bytes, not ended", of_length(MAX_TEXT + 2, ")\n")[..MAX_TEXT].into(), NOT_LEGAL, 16_385),
         ("16,385 bytes", of_length(MAX_TEXT + 1, ")\n"), NOT_LEGAL, 0),
-        (
-            "16,384 bytes, not ended",
-            of_length(MAX_TEXT, "))"),
-            NOT_LEGAL,
-            16_384,
-        ),
-        (
-            "16,385 bytes, not legal at all",
-            "x".repeat(MAX_TEXT + 1),
-            NOT_LEGAL,
-            0,
-        ),
-        (
-            "a long text cut at 16,384 bytes",
-            of_length(MAX_TEXT + 2, ")\n")[..MAX_TEXT].into(),
-            NOT_LEGAL,
-            16_385,
-        ),
+        ("16,385 bytes, the first one wrong", "x".repeat(MAX_TEXT + 1), NOT_LEGAL, 0),
     ]
 }
 
