@@ -38,14 +38,14 @@
  *     wish !s1
  *     wish !s2
  *
- *   In a formula ! binds before & and & before |, from the left, and brackets and nots go 32 deep at
- *   most. Each operator makes a gate, in the order in which the operators are complete. All jobs
- *   answer as for the sheet that the text stands for.
+ *   In a formula ! binds closest, then &, then |, all from the left; brackets and nots together go
+ *   32 deep at most. Each operator makes a gate, in the order in which the operators are complete.
+ *   All jobs answer as for the sheet that the text stands for.
  *
  * The number
  *
  *   Answer, short run and rating return a number, and write a place and a column. All three are 0
- *   when the job is done. Lines and columns are counted from 1.
+ *   when the job is done. Lines, columns and bytes are counted from 1.
  *
  *    number  cause                                                              place
  *    ------  -----------------------------------------------------------------  ----------------
@@ -69,7 +69,7 @@
  *                                                                               one's position,
  *                                                                               from 1
  *        12  the text is longer than 16,384 bytes                               0
- *            the text is not legal                                              the byte, from 1
+ *            the text is not legal                                              the byte
  *
  *   Numbers 1, 2, 3 and 7 are not for texts, and 12 is for nothing else. The byte of 12 is the one
  *   with which the text ceases to be the beginning of any text that is legal but for its length; if

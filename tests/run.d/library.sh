@@ -241,7 +241,7 @@ else
 fi
 if [ -x "$typed" ]; then
     counted "typed against the brute force" limited 1200 "$built/release/compare-program" "$typed" \
-        examples/*.text tests/runs/typed-[0-8]*.text --texts 1
+        examples/*.text tests/runs/typed-*.text --texts 1
 else
     fail "typed was not compared, as there is no target/bin/typed"
 fi

@@ -51,6 +51,8 @@ const NOT_RATED: Rated = Rated {
 /// The calls of the archive: each job has one for a sheet and one for a typed text, with the same
 /// arguments.
 mod archive {
+    use crate::Input;
+
     macro_rules! calls {
         ($($job:ident: $sheet:ident, $text:ident, ($($argument:ty),*) -> $number:ty;)*) => {
             extern "C" {
@@ -61,13 +63,13 @@ mod archive {
             }
             $(
                 /// The bytes with the call for them.
-                pub fn $job<'a>(input: crate::Input<'a>) -> (
+                pub fn $job<'a>(input: Input<'a>) -> (
                     &'a [u8],
                     unsafe extern "C" fn(*const u8, usize, $($argument),*) -> $number,
                 ) {
                     match input {
-                        crate::Input::Sheet(sheet) => (sheet, $sheet),
-                        crate::Input::Text(text) => (text, $text),
+                        Input::Sheet(sheet) => (sheet, $sheet),
+                        Input::Text(text) => (text, $text),
                     }
                 }
             )*

@@ -769,7 +769,7 @@ pub fn typed_text(seed: u64, index: u64) -> Made {
                 return Made {
                     bytes,
                     kind,
-                    damaged: true,
+                    damaged: matches!(recipe, Damage(_)),
                 };
             }
         }
