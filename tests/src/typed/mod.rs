@@ -6,6 +6,8 @@ mod formula;
 pub mod generate;
 mod grammar;
 pub mod places;
+#[cfg(test)]
+mod wrong;
 
 use std::sync::OnceLock;
 
@@ -202,10 +204,9 @@ mod tests {
     use super::generate::{kinds, typed_text};
     use super::places::placed;
     use super::*;
-    use crate::brute::{listing_of, Planner};
+    use crate::brute::listing_of;
     use crate::oracle;
-    use crate::planning::light;
-    use std::collections::BTreeMap;
+    use std::collections::{BTreeMap, BTreeSet};
 
     /// The gates of one rule over 3 switches and 2 faults, as "A 1 2", and the rule's point.
     fn rule(formula: &str) -> (Vec<String>, u32) {
@@ -232,22 +233,25 @@ mod tests {
         }
     }
 
-    /// The place is by its meaning a property of beginnings: the text up to it can go on, with the
-    /// next byte it cannot.
+    /// Generated texts that are not legal and not too long, up to so many bytes, and how many bytes
+    /// of each a legal text shares.
+    fn not_legal(seed: u64, count: u64, most: usize) -> impl Iterator<Item = (Vec<u8>, usize)> {
+        let texts = (0..count).map(move |index| typed_text(seed, index).bytes);
+        texts
+            .filter(move |bytes| bytes.len() <= most)
+            .filter_map(|bytes| {
+                let refusal = read(&bytes).err().filter(|r| r.number == NOT_LEGAL)?;
+                Some((bytes, refusal.place - 1))
+            })
+    }
+
+    /// A beginning of a text shares as much as the text does, or all of itself.
     #[test]
     fn places_by_beginnings() {
-        for index in 0..2_000 {
-            let bytes = typed_text(5, index).bytes;
-            let Err(refusal) = read(&bytes) else {
-                continue;
-            };
-            if refusal.number != NOT_LEGAL || refusal.place == 0 || bytes.len() > 400 {
-                continue;
-            }
-            let shared = refusal.place - 1;
+        for (bytes, shared) in not_legal(5, 2_000, 400) {
             for length in 0..=bytes.len() {
                 let reach = right_grammar().reach(&bytes[..length]);
-                assert_eq!(reach.shared, length.min(shared), "index {index}, {length}");
+                assert_eq!(reach.shared, length.min(shared), "{}", bytes.escape_ascii());
             }
         }
     }
@@ -255,45 +259,27 @@ mod tests {
     /// Whether some text begins so, by trying: the word under way is ended in each way that there
     /// is, and the open brackets of the line are closed.
     fn can_go_on(beginning: &[u8]) -> bool {
-        let line = beginning
-            .rsplit(|&byte| byte == b'\n')
-            .next()
-            .unwrap_or(b"");
+        let mut lines = beginning.rsplit(|&byte| byte == b'\n');
+        let line = lines.next().unwrap_or_default();
         let count = |bracket| line.iter().filter(|&&byte| byte == bracket).count();
         let close = ")".repeat(count(b'(').saturating_sub(count(b')'))) + "\n";
         let (rule, and) = (format!("rule s1{close}"), format!("&s1{close}"));
-        ["switches 0\nfaults 0\n", &rule, &and, "wish s1\n"]
-            .iter()
-            .any(|end| {
-                (0..=end.len()).any(|from| {
-                    let text = [beginning, end[from..].as_bytes()].concat();
-                    right_grammar().reach(&text).legal
-                })
-            })
+        let ends = ["switches 0\nfaults 0\n", &rule, &and, "wish s1\n"];
+        let ended = |end: &[u8]| right_grammar().reach(&[beginning, end].concat()).legal;
+        ends.iter()
+            .any(|end| (0..=end.len()).any(|from| ended(end[from..].as_bytes())))
     }
 
+    /// The part that is shared can go on, and with the next byte it cannot.
     #[test]
     fn places_by_trying() {
         let mut tried = 0;
-        for index in 0..3_000 {
-            let bytes = typed_text(6, index).bytes;
-            let outcome = read(&bytes);
-            let Err(Refusal {
-                number: NOT_LEGAL,
-                place: 1..,
-                ..
-            }) = outcome
-            else {
-                continue;
-            };
-            let shared = outcome.unwrap_err().place - 1;
-            if shared > 2_000 {
-                continue;
+        for (bytes, shared) in not_legal(6, 3_000, 2_000) {
+            assert!(can_go_on(&bytes[..shared]), "{}", bytes.escape_ascii());
+            if shared < bytes.len() {
+                assert!(!can_go_on(&bytes[..=shared]), "{}", bytes.escape_ascii());
             }
             tried += 1;
-            assert!(can_go_on(&bytes[..shared]), "index {index}");
-            let ends_there = shared == bytes.len();
-            assert!(ends_there || !can_go_on(&bytes[..=shared]), "index {index}");
         }
         assert!(tried >= 500, "{tried}");
     }
@@ -375,252 +361,29 @@ mod tests {
     /// What the comparison relies on does come, within the texts of one seed.
     #[test]
     fn the_limits_are_reached() {
-        let mut numbers = BTreeMap::new();
-        let mut made: BTreeMap<&str, [usize; 2]> = BTreeMap::new();
-        let (mut reached, mut passed) = (0, 0);
-        let (mut full, mut too_long, mut places) = (0, 0, BTreeMap::new());
+        let mut numbers: BTreeMap<u32, usize> = BTreeMap::new();
+        let mut made: BTreeMap<&str, usize> = BTreeMap::new();
+        let mut places = BTreeSet::new();
+        let (mut reached, mut passed, mut longest, mut too_long) = (0, 0, 0, 0);
         for index in 0..6_000 {
             let text = typed_text(1, index);
             let outcome = read(&text.bytes);
-            let number = outcome.as_ref().map_or_else(|r| r.number, |_| 0);
-            *numbers.entry(number).or_insert(0) += 1;
-            made.entry(text.kind).or_default()[usize::from(number != 0)] += 1;
             let depth = depth(&text.bytes);
             reached += usize::from(depth.reached);
             passed += usize::from(depth.passed);
-            full += usize::from(outcome.is_ok() && text.bytes.len() == MAX_TEXT);
+            longest += usize::from(outcome.is_ok() && text.bytes.len() == MAX_TEXT);
             too_long += usize::from(text.bytes.len() == MAX_TEXT + 1);
-            if let Err(refusal) = outcome {
-                *places.entry(refusal.place).or_insert(0) += 1;
-            }
+            *made.entry(text.kind).or_default() += 1;
+            let number = outcome.as_ref().map_or_else(|r| r.number, |_| 0);
+            *numbers.entry(number).or_default() += 1;
+            places.extend(outcome.err().map(|refusal| refusal.place));
         }
-        println!("{numbers:?}\n{made:?}\n{reached} {passed} {full} {too_long}");
         for number in [0, BAD_SIZE, TOO_MANY, BAD_FIELD, NOT_LEGAL] {
             assert!(numbers[&number] >= 60, "{numbers:?}");
         }
-        for kind in kinds() {
-            assert!(made[kind].iter().sum::<usize>() >= 80, "{kind}: {made:?}");
-        }
-        assert!(reached >= 100 && passed >= 100, "{reached}, {passed}");
-        assert!(full >= 5 && too_long >= 5, "{full}, {too_long}");
+        assert!(kinds().all(|kind| made[kind] >= 80), "{made:?}");
         assert!(places.len() >= 250, "{}", places.len());
-    }
-
-    // ---- readers that read texts wrongly
-
-    type Read = Result<Sheet, Refusal>;
-
-    fn said_by(bytes: &[u8], manner: Manner) -> Read {
-        tables(&value(bytes, manner), MAX_GATES)
-    }
-
-    /// The gates of one kind and the same points counted once.
-    fn shared_gates(sheet: Sheet) -> Sheet {
-        let mut again = Sheet {
-            gates: Vec::new(),
-            rules: Vec::new(),
-            ..sheet.clone()
-        };
-        let inputs = sheet.switches + sheet.faults;
-        let mut now: Vec<u32> = (0..=inputs).collect();
-        for gate in sheet.gates {
-            let gate = Gate {
-                left: now[gate.left as usize],
-                right: now[gate.right as usize],
-                ..gate
-            };
-            let there = again.gates.iter().position(|&g| g == gate);
-            let at = there.unwrap_or_else(|| {
-                again.gates.push(gate);
-                again.gates.len() - 1
-            });
-            now.push(inputs + at as u32 + 1);
-        }
-        again.rules = sheet.rules.iter().map(|&p| now[p as usize]).collect();
-        again
-    }
-
-    fn moved(outcome: &Read, by: impl Fn(usize) -> usize) -> Read {
-        outcome.clone().map_err(|refusal| {
-            let twelve = refusal.number == NOT_LEGAL && refusal.place > 0;
-            let place = if twelve {
-                by(refusal.place)
-            } else {
-                refusal.place
-            };
-            Refusal { place, ..refusal }
-        })
-    }
-
-    /// What the jobs show of a text: the refusal, or what Answer gives.
-    fn shown(outcome: &Read) -> String {
-        match outcome {
-            Err(refusal) => format!("{refusal:?}"),
-            Ok(sheet) if light(sheet) => format!("{:?}", Planner::new(sheet.clone()).run(50)),
-            Ok(_) => "accepted".into(),
-        }
-    }
-
-    /// Each wrong reading gives other tables or another refusal for many texts. All show in what the
-    /// jobs return too, but for those that only change the order of the gates: with them the rules
-    /// mean the same.
-    #[test]
-    fn wrong_readings_show() {
-        let bounds = |change: fn(&mut Bounds)| {
-            let mut bounds = LEGAL;
-            change(&mut bounds);
-            bounds
-        };
-        let manner = |change: fn(&mut Manner)| {
-            let mut manner = LEFT;
-            change(&mut manner);
-            manner
-        };
-        let grammars = [
-            ("a depth of 33 let through", bounds(|b| b.deepest += 1)),
-            ("a depth of 32 refused", bounds(|b| b.deepest -= 1)),
-            (
-                "a leading zero let through",
-                bounds(|b| b.leading_zeros = true),
-            ),
-            (
-                "a space let through before the line feed",
-                bounds(|b| b.space_before_line_feed = true),
-            ),
-        ]
-        .map(|(name, bounds)| (name, Grammar::new(bounds)));
-        let manners = [
-            (
-                "and binds looser than or",
-                manner(|m| m.loosest_first = *b"&|"),
-                true,
-            ),
-            (
-                "grouping from the right",
-                manner(|m| m.from_the_right = true),
-                false,
-            ),
-            (
-                "gates in the order of the signs",
-                manner(|m| m.order = formula::Operator::sign_at),
-                false,
-            ),
-        ];
-        let mut counts: BTreeMap<&str, (usize, usize)> = BTreeMap::new();
-        for index in 0..6_000 {
-            let bytes = typed_text(3, index).bytes;
-            let right = read(&bytes);
-            let mut hold = |name, wrong: Read, visible: bool| {
-                let count = counts.entry(name).or_default();
-                if wrong != right {
-                    count.0 += 1;
-                    count.1 += usize::from(visible && shown(&wrong) != shown(&right));
-                }
-            };
-            for (name, grammar) in &grammars {
-                let wrong = legal(&bytes, grammar).and_then(|()| said_by(&bytes, LEFT));
-                hold(name, wrong, true);
-            }
-            hold(
-                "the place one too small",
-                moved(&right, |place| place - 1),
-                true,
-            );
-            hold(
-                "the place one too large",
-                moved(&right, |place| place + 1),
-                true,
-            );
-            hold(
-                "the end of a text told as its last byte",
-                moved(&right, |place| place.min(bytes.len())),
-                true,
-            );
-            hold(
-                "the line told for the byte",
-                moved(&right, |place| {
-                    1 + bytes[..place - 1].iter().filter(|&&b| b == b'\n').count()
-                }),
-                true,
-            );
-            if legal(&bytes, right_grammar()).is_err() {
-                continue;
-            }
-            let said = value(&bytes, LEFT);
-            for (name, manner, visible) in manners {
-                // In the order of the signs a gate may name a later one: no sheet has that.
-                hold(name, said_by(&bytes, manner), visible);
-            }
-            let faults_first = |outcome: &Read| {
-                let bad_faults = said.faults > MAX_FAULTS as u32;
-                let at_switches = matches!(outcome, Err(r) if r.number == BAD_SIZE);
-                if at_switches && bad_faults {
-                    refuse(BAD_SIZE, FAULTS_LINE)
-                } else {
-                    outcome.clone()
-                }
-            };
-            hold(
-                "faults looked at before switches",
-                faults_first(&right),
-                true,
-            );
-            hold("5 told after 6", sixes_first(&said), true);
-            hold("gates shared", shared(&said), true);
-            hold("any point for a switch", any_point(&said), true);
-        }
-        let unseen = ["grouping from the right", "gates in the order of the signs"];
-        for (name, (tables, outcomes)) in counts {
-            println!("{tables:>5} texts, {outcomes:>5} by their outcomes: {name}");
-            assert!(tables >= 50, "{name}: {tables}");
-            assert!(
-                outcomes >= 50 || unseen.contains(&name),
-                "{name}: {outcomes}"
-            );
-        }
-    }
-
-    /// All lines looked at for refusal 6 before any is for 5.
-    fn sixes_first(value: &Value) -> Read {
-        let sheet = Sheet {
-            switches: value.switches,
-            faults: value.faults,
-            ..Sheet::default()
-        };
-        let right = tables(value, MAX_GATES);
-        if !matches!(right, Err(r) if r.number == TOO_MANY) {
-            return right;
-        }
-        let bad_rule = value.rules.iter().position(|f| !all_there(f, &sheet));
-        let bad = |wish: &Vec<i32>| wish.iter().any(|l| l.unsigned_abs() > sheet.switches);
-        let bad_wish = value.wishes.iter().position(bad);
-        match (bad_rule, bad_wish) {
-            (Some(at), _) => refuse(BAD_FIELD, 3 + at),
-            (_, Some(at)) => refuse(BAD_FIELD, 3 + value.rules.len() + at),
-            _ => right,
-        }
-    }
-
-    /// Gates that are there already are taken again, and so not counted.
-    fn shared(value: &Value) -> Read {
-        match tables(value, usize::MAX).map(shared_gates) {
-            Ok(sheet) if sheet.gates.len() > MAX_GATES => tables(value, MAX_GATES),
-            other => other,
-        }
-    }
-
-    /// An `s` number that is a point is taken, whatever that point is.
-    fn any_point(value: &Value) -> Read {
-        let right = tables(value, MAX_GATES);
-        match right {
-            Err(r) if r.number == BAD_FIELD => {
-                let more = Value {
-                    switches: value.switches + value.faults,
-                    ..value.clone()
-                };
-                tables(&more, MAX_GATES)
-            }
-            _ => right,
-        }
+        assert!(reached >= 100 && passed >= 100, "{reached}, {passed}");
+        assert!(longest >= 5 && too_long >= 5, "{longest}, {too_long}");
     }
 }
