@@ -8,7 +8,9 @@ pub mod Source
 pub mod Meaning
 pub mod Typed
 pub mod Texts
+-- computes what Texts says of a typed text (`text-read` in Claims)
 pub mod Parsing
+-- to believe, further
 pub mod Rule
 pub mod Jobs
 pub mod Demands

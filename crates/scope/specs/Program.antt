@@ -8,6 +8,8 @@ use lib.ListN.{length, take, replicate}
 use Rattle.scope.specs.Sheet.{Clause, Sheet, Number, plus, fieldsBytes, fieldCount}
 use Rattle.scope.specs.Reading.{Read, accepted, refused, mostBytes, read}
 use Rattle.scope.specs.Meaning.{bits, kept}
+use Rattle.scope.specs.Typed.{mostText}
+use Rattle.scope.specs.Parsing.{readText}
 use Rattle.scope.specs.Jobs.{Result, Answer, answerOf}
 use Rattle.scope.specs.Demands.{listed}
 
@@ -74,3 +76,8 @@ outputRows r = ended (answerRows r (answerOf r (replicate room 0)))
 
 unfoldable pub output : List ℕ → List ℕ
 output input = rowsBytes (outputRows (read fieldCount (inputOf input)))
+
+-- ---- the second program: a typed text, up to one byte more than it may have
+
+unfoldable pub textOutput : List ℕ → List ℕ
+textOutput input = rowsBytes (outputRows (readText (take (suc mostText) input)))
