@@ -23,6 +23,7 @@ use Rattle.text.proofs.formula.atom.Reads as atom-reads
 use Rattle.text.proofs.formula.closed.Reads as closed-reads
 use Rattle.text.proofs.formula.goes_on.Reads as goes-on-reads
 use Rattle.text.proofs.formula.operand_at.Reads as operand-at-reads
+use Rattle.text.proofs.formula.same.Reads as same-reads
 use Rattle.text.proofs.formula.stuck.Reads as stuck-reads
 use Rattle.text.proofs.formula.with_gate.Reads as with-gate-reads
 use Rattle.text.proofs.reader.look.Reads as look-reads
@@ -75,6 +76,8 @@ and-level-factor-requires : (t : ℕ) → and-level-lts.Need-factor-requires (
   operand-at-reads.Learnt,
   with-gate-reads.Asked,
   with-gate-reads.Learnt,
+  same-reads.Asked,
+  same-reads.Learnt,
 ) (and-level-at t) and-level.Post and-level-Inv-loop and-level-μ-loop
 and-level-factor-requires t c κs = (omega arith, c .before .before .before .before .pre .1)
 
@@ -87,6 +90,8 @@ and-level-loop-holds : (t : ℕ) → and-level-lts.Need-loop-holds (
   operand-at-reads.Learnt,
   with-gate-reads.Asked,
   with-gate-reads.Learnt,
+  same-reads.Asked,
+  same-reads.Learnt,
 ) (and-level-at t) and-level.Post and-level-Inv-loop and-level-μ-loop
 and-level-loop-holds t c = λ k l r h. h
 
@@ -99,6 +104,8 @@ and-level-goes-on-requires : (t : ℕ) → and-level-lts.Need-goes-on-requires (
   operand-at-reads.Learnt,
   with-gate-reads.Asked,
   with-gate-reads.Learnt,
+  same-reads.Asked,
+  same-reads.Learnt,
 ) (and-level-at t) and-level.Post and-level-Inv-loop and-level-μ-loop
 and-level-goes-on-requires t c κs = search needs
 
@@ -111,6 +118,8 @@ and-level-operand-at-requires : (t : ℕ) → and-level-lts.Need-operand-at-requ
   operand-at-reads.Learnt,
   with-gate-reads.Asked,
   with-gate-reads.Learnt,
+  same-reads.Asked,
+  same-reads.Learnt,
 ) (and-level-at t) and-level.Post and-level-Inv-loop and-level-μ-loop
 and-level-operand-at-requires t c κs = sign-stands _ _ andSign (omega arith) (sym (c .before .goes-on .ensures) ∙ c .if1 .taken)
 
@@ -123,6 +132,8 @@ and-level-factor-requires-2 : (t : ℕ) → and-level-lts.Need-factor-requires-2
   operand-at-reads.Learnt,
   with-gate-reads.Asked,
   with-gate-reads.Learnt,
+  same-reads.Asked,
+  same-reads.Learnt,
 ) (and-level-at t) and-level.Post and-level-Inv-loop and-level-μ-loop
 and-level-factor-requires-2 t c κs =
     let h = c .before .before .before .before .before .before .loop .inv _ _ _ (ands-first _ _ _ _ _ _ _ _ _ _ _ _ _ _ (c .before .before .before .before .before .before .before .factor .ensures)) in
@@ -137,6 +148,8 @@ and-level-with-gate-requires : (t : ℕ) → and-level-lts.Need-with-gate-requir
   operand-at-reads.Learnt,
   with-gate-reads.Asked,
   with-gate-reads.Learnt,
+  same-reads.Asked,
+  same-reads.Learnt,
 ) (and-level-at t) and-level.Post and-level-Inv-loop and-level-μ-loop
 and-level-with-gate-requires t c κs = (c .before .before .before .before .before .before .before .before .before .before .before .before .before .before .before .before .pre .1 .switches, c .before .before .before .before .before .before .before .before .before .before .before .before .before .before .before .before .pre .1 .faults, c .before .before .before .factor2 .ensures .few)
 
@@ -149,6 +162,8 @@ and-level-loop-less : (t : ℕ) → and-level-lts.Need-loop-less (
   operand-at-reads.Learnt,
   with-gate-reads.Asked,
   with-gate-reads.Learnt,
+  same-reads.Asked,
+  same-reads.Learnt,
 ) (and-level-at t) and-level.Post and-level-Inv-loop and-level-μ-loop
 and-level-loop-less t c = less-left _ _ andSign (omega arith) (sym (c .before .before .before .before .before .before .before .before .before .before .goes-on .ensures) ∙ c .before .before .before .before .before .before .before .before .before .if1 .taken) _ _ _ _ _ _ _ _ _ _ _ _ _ _ _ _ _ _ (rw (c .before .before .before .before .before .before .before .before .operand-at .ensures) at (c .before .before .before .before .factor2 .ensures)) (c .with-gate .ensures)
 
@@ -161,8 +176,24 @@ and-level-loop-again : (t : ℕ) → and-level-lts.Need-loop-again (
   operand-at-reads.Learnt,
   with-gate-reads.Asked,
   with-gate-reads.Learnt,
+  same-reads.Asked,
+  same-reads.Learnt,
 ) (and-level-at t) and-level.Post and-level-Inv-loop and-level-μ-loop
 and-level-loop-again t c = λ k l r h. ands-more _ _ _ _ _ _ _ (c .before .before .before .before .before .before .before .before .before .before .before .before .before .before .before .before .before .pre .1) _ _ _ k l r _ _ _ _ _ _ _ _ _ (c .before .before .before .before .before .before .before .before .before .before .before .loop .inv k l r h) (sym (c .before .before .before .before .before .before .before .before .before .before .goes-on .ensures) ∙ c .before .before .before .before .before .before .before .before .before .if1 .taken) (rw (c .before .before .before .before .before .before .before .before .operand-at .ensures) at (c .before .before .before .before .factor2 .ensures)) (c .with-gate .ensures)
+
+and-level-same-requires : (t : ℕ) → and-level-lts.Need-same-requires (
+  factor-below t,
+  factor.Post,
+  goes-on-reads.Asked,
+  goes-on-reads.Learnt,
+  operand-at-reads.Asked,
+  operand-at-reads.Learnt,
+  with-gate-reads.Asked,
+  with-gate-reads.Learnt,
+  same-reads.Asked,
+  same-reads.Learnt,
+) (and-level-at t) and-level.Post and-level-Inv-loop and-level-μ-loop
+and-level-same-requires t c κs = search needs
 
 and-level-returns : (t : ℕ) → and-level-lts.Need-returns (
   factor-below t,
@@ -173,10 +204,12 @@ and-level-returns : (t : ℕ) → and-level-lts.Need-returns (
   operand-at-reads.Learnt,
   with-gate-reads.Asked,
   with-gate-reads.Learnt,
+  same-reads.Asked,
+  same-reads.Learnt,
 ) (and-level-at t) and-level.Post and-level-Inv-loop and-level-μ-loop
 and-level-returns t c =
-    let h = c .before .before .loop .inv _ _ _ (ands-first _ _ _ _ _ _ _ _ _ _ _ _ _ _ (c .before .before .before .factor .ensures)) in
-    (h, goes-ends _ _ andSign (sym (c .before .goes-on .ensures) ∙ c .if1 .left))
+    let h = c .before .before .before .loop .inv _ _ _ (ands-first _ _ _ _ _ _ _ _ _ _ _ _ _ _ (c .before .before .before .before .factor .ensures)) in
+    rw (c .same .ensures) (h, goes-ends _ _ andSign (sym (c .before .before .goes-on .ensures) ∙ c .before .if1 .left))
 
 factor-look-requires : (t : ℕ) → factor-lts.Need-look-requires (
   look-reads.Asked,
@@ -590,6 +623,8 @@ or-level-and-level-requires : (t : ℕ) → or-level-lts.Need-and-level-requires
   operand-at-reads.Learnt,
   with-gate-reads.Asked,
   with-gate-reads.Learnt,
+  same-reads.Asked,
+  same-reads.Learnt,
 ) (or-level-at t) or-level.Post or-level-Inv-loop or-level-μ-loop
 or-level-and-level-requires t c κs = (omega arith, c .before .before .before .before .pre .1)
 
@@ -602,6 +637,8 @@ or-level-loop-holds : (t : ℕ) → or-level-lts.Need-loop-holds (
   operand-at-reads.Learnt,
   with-gate-reads.Asked,
   with-gate-reads.Learnt,
+  same-reads.Asked,
+  same-reads.Learnt,
 ) (or-level-at t) or-level.Post or-level-Inv-loop or-level-μ-loop
 or-level-loop-holds t c = (c .and-level .ensures .1, λ k l r h. h)
 
@@ -614,6 +651,8 @@ or-level-goes-on-requires : (t : ℕ) → or-level-lts.Need-goes-on-requires (
   operand-at-reads.Learnt,
   with-gate-reads.Asked,
   with-gate-reads.Learnt,
+  same-reads.Asked,
+  same-reads.Learnt,
 ) (or-level-at t) or-level.Post or-level-Inv-loop or-level-μ-loop
 or-level-goes-on-requires t c κs = search needs
 
@@ -626,6 +665,8 @@ or-level-operand-at-requires : (t : ℕ) → or-level-lts.Need-operand-at-requir
   operand-at-reads.Learnt,
   with-gate-reads.Asked,
   with-gate-reads.Learnt,
+  same-reads.Asked,
+  same-reads.Learnt,
 ) (or-level-at t) or-level.Post or-level-Inv-loop or-level-μ-loop
 or-level-operand-at-requires t c κs = sign-stands _ _ orSign (omega arith) (sym (c .before .goes-on .ensures) ∙ c .if1 .taken)
 
@@ -638,6 +679,8 @@ or-level-and-level-requires-2 : (t : ℕ) → or-level-lts.Need-and-level-requir
   operand-at-reads.Learnt,
   with-gate-reads.Asked,
   with-gate-reads.Learnt,
+  same-reads.Asked,
+  same-reads.Learnt,
 ) (or-level-at t) or-level.Post or-level-Inv-loop or-level-μ-loop
 or-level-and-level-requires-2 t c κs =
     let h = c .before .before .before .before .before .before .loop .inv .1 _ _ _ (ors-first _ _ _ _ _ _ _ _ _ _ _ _ _ _ (c .before .before .before .before .before .before .before .and-level .ensures .0)) in
@@ -652,6 +695,8 @@ or-level-with-gate-requires : (t : ℕ) → or-level-lts.Need-with-gate-requires
   operand-at-reads.Learnt,
   with-gate-reads.Asked,
   with-gate-reads.Learnt,
+  same-reads.Asked,
+  same-reads.Learnt,
 ) (or-level-at t) or-level.Post or-level-Inv-loop or-level-μ-loop
 or-level-with-gate-requires t c κs = (c .before .before .before .before .before .before .before .before .before .before .before .before .before .before .before .before .pre .1 .switches, c .before .before .before .before .before .before .before .before .before .before .before .before .before .before .before .before .pre .1 .faults, c .before .before .before .and-level2 .ensures .0 .few)
 
@@ -664,6 +709,8 @@ or-level-loop-less : (t : ℕ) → or-level-lts.Need-loop-less (
   operand-at-reads.Learnt,
   with-gate-reads.Asked,
   with-gate-reads.Learnt,
+  same-reads.Asked,
+  same-reads.Learnt,
 ) (or-level-at t) or-level.Post or-level-Inv-loop or-level-μ-loop
 or-level-loop-less t c = less-left _ _ orSign (omega arith) (sym (c .before .before .before .before .before .before .before .before .before .before .goes-on .ensures) ∙ c .before .before .before .before .before .before .before .before .before .if1 .taken) _ _ _ _ _ _ _ _ _ _ _ _ _ _ _ _ _ _ (rw (c .before .before .before .before .before .before .before .before .operand-at .ensures) at (c .before .before .before .before .and-level2 .ensures .0)) (c .with-gate .ensures)
 
@@ -676,8 +723,24 @@ or-level-loop-again : (t : ℕ) → or-level-lts.Need-loop-again (
   operand-at-reads.Learnt,
   with-gate-reads.Asked,
   with-gate-reads.Learnt,
+  same-reads.Asked,
+  same-reads.Learnt,
 ) (or-level-at t) or-level.Post or-level-Inv-loop or-level-μ-loop
 or-level-loop-again t c = (gated-ends _ _ _ _ _ _ _ _ _ _ _ _ _ _ _ (c .with-gate .ensures) (c .before .before .before .before .and-level2 .ensures .1), λ k l r h. ors-more _ _ _ _ _ _ _ (c .before .before .before .before .before .before .before .before .before .before .before .before .before .before .before .before .before .pre .1) _ _ _ k l r _ _ _ _ _ _ _ _ _ (c .before .before .before .before .before .before .before .before .before .before .before .loop .inv .1 k l r h) (sym (c .before .before .before .before .before .before .before .before .before .before .goes-on .ensures) ∙ c .before .before .before .before .before .before .before .before .before .if1 .taken) (rw (c .before .before .before .before .before .before .before .before .operand-at .ensures) at (c .before .before .before .before .and-level2 .ensures .0)) (c .with-gate .ensures))
+
+or-level-same-requires : (t : ℕ) → or-level-lts.Need-same-requires (
+  and-level-below t,
+  and-level.Post,
+  goes-on-reads.Asked,
+  goes-on-reads.Learnt,
+  operand-at-reads.Asked,
+  operand-at-reads.Learnt,
+  with-gate-reads.Asked,
+  with-gate-reads.Learnt,
+  same-reads.Asked,
+  same-reads.Learnt,
+) (or-level-at t) or-level.Post or-level-Inv-loop or-level-μ-loop
+or-level-same-requires t c κs = search needs
 
 or-level-returns : (t : ℕ) → or-level-lts.Need-returns (
   and-level-below t,
@@ -688,10 +751,12 @@ or-level-returns : (t : ℕ) → or-level-lts.Need-returns (
   operand-at-reads.Learnt,
   with-gate-reads.Asked,
   with-gate-reads.Learnt,
+  same-reads.Asked,
+  same-reads.Learnt,
 ) (or-level-at t) or-level.Post or-level-Inv-loop or-level-μ-loop
 or-level-returns t c =
-    let h = c .before .before .loop .inv .1 _ _ _ (ors-first _ _ _ _ _ _ _ _ _ _ _ _ _ _ (c .before .before .before .and-level .ensures .0)) in
-    (h, c .before .before .loop .inv .0, goes-ends _ _ orSign (sym (c .before .goes-on .ensures) ∙ c .if1 .left))
+    let h = c .before .before .before .loop .inv .1 _ _ _ (ors-first _ _ _ _ _ _ _ _ _ _ _ _ _ _ (c .before .before .before .before .and-level .ensures .0)) in
+    rw (c .same .ensures) (h, c .before .before .before .loop .inv .0, goes-ends _ _ orSign (sym (c .before .before .goes-on .ensures) ∙ c .before .if1 .left))
 
 pub +and-level+factor+or-level-spec : {M : Type 1} → statement M
 +and-level+factor+or-level-spec = close μ-and-level μ-factor μ-or-level (λ t. and-level-lts.spec (
@@ -703,6 +768,8 @@ pub +and-level+factor+or-level-spec : {M : Type 1} → statement M
   operand-at-reads.Learnt,
   with-gate-reads.Asked,
   with-gate-reads.Learnt,
+  same-reads.Asked,
+  same-reads.Learnt,
 )
     (and-level-at t)
     and-level.Post
@@ -716,6 +783,7 @@ pub +and-level+factor+or-level-spec : {M : Type 1} → statement M
     (and-level-with-gate-requires t)
     (and-level-loop-less t)
     (and-level-loop-again t)
+    (and-level-same-requires t)
     (and-level-returns t))
     (λ t. factor-lts.spec (
       look-reads.Asked,
@@ -765,6 +833,8 @@ pub +and-level+factor+or-level-spec : {M : Type 1} → statement M
       operand-at-reads.Learnt,
       with-gate-reads.Asked,
       with-gate-reads.Learnt,
+      same-reads.Asked,
+      same-reads.Learnt,
     )
     (or-level-at t)
     or-level.Post
@@ -778,4 +848,5 @@ pub +and-level+factor+or-level-spec : {M : Type 1} → statement M
     (or-level-with-gate-requires t)
     (or-level-loop-less t)
     (or-level-loop-again t)
+    (or-level-same-requires t)
     (or-level-returns t)

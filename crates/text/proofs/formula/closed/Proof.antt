@@ -10,9 +10,12 @@ use borrow.Author.Needs.{needs}
 use Rattle.text.proofs.formula.closed.Statement.{statement}
 use Rattle.text.proofs.formula.closed.Tie as tie
 
+same-requires : tie.Need-same-requires
+same-requires c κs = search needs
+
 returns : tie.Need-returns
 unfolding closedOf
-returns c = rw (c .if1 .taken)
+returns c = c .same .ensures ∙ rw (c .before .if1 .taken)
 
 skip-requires : tie.Need-skip-requires
 skip-requires c κs = search needs
@@ -48,4 +51,4 @@ returns-3 c =
 pub closed-spec : {M : Type 1} → statement M
 closed-spec =
     tie.close
-    (tie.spec returns skip-requires look-requires add-t7 returns-2 stuck-requires returns-3)
+    (tie.spec same-requires returns skip-requires look-requires add-t7 returns-2 stuck-requires returns-3)

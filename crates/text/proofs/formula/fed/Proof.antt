@@ -10,9 +10,12 @@ use borrow.Author.Needs.{needs}
 use Rattle.text.proofs.formula.fed.Statement.{statement}
 use Rattle.text.proofs.formula.fed.Tie as tie
 
+same-requires : tie.Need-same-requires
+same-requires c κs = search needs
+
 returns : tie.Need-returns
 unfolding fedOf
-returns c = rw (c .if1 .taken)
+returns c = c .same .ensures ∙ rw (c .before .if1 .taken)
 
 look-requires : tie.Need-look-requires
 look-requires c κs = search needs
@@ -44,4 +47,4 @@ returns-3 c =
 pub fed-spec : {M : Type 1} → statement M
 fed-spec =
     tie.close
-    (tie.spec returns look-requires add-t6 returns-2 skip-requires stuck-requires returns-3)
+    (tie.spec same-requires returns look-requires add-t6 returns-2 skip-requires stuck-requires returns-3)

@@ -7,8 +7,11 @@ use borrow.Author.Needs.{needs}
 use Rattle.text.proofs.formula.with_gate.Statement.{statement}
 use Rattle.text.proofs.formula.with_gate.Tie as tie
 
+same-requires : tie.Need-same-requires
+same-requires c κs = search needs
+
 returns : tie.Need-returns
-returns c = gated-bad _ _ _ _ _ _ _ _ _ _ (c .if1 .taken) refl
+returns c = gated-bad _ _ _ _ _ _ _ _ _ _ (c .before .if1 .taken) (c .same .ensures)
 
 add-t13 : tie.Need-add-t13
 add-t13 c = search needs
@@ -34,4 +37,4 @@ returns-3 c = gated-put _ _ _ _ _ _ _ _ _ _ _ _ _ (c .before .before .before .be
 pub with-gate-spec : {M : Type 1} → statement M
 with-gate-spec =
     tie.close
-    (tie.spec returns add-t13 add-t14 add-t15 add-t16 returns-2 put-gate-requires returns-3)
+    (tie.spec same-requires returns add-t13 add-t14 add-t15 add-t16 returns-2 put-gate-requires returns-3)
