@@ -1,5 +1,5 @@
 -- What reading a typed text gives, byte by byte; `text-read` (Claims) says all of it in plain quantifiers. Assumes nothing.
-use Prim.Native.Nat.{ℕ, zero, suc, _+_, _-_, _*_}
+use Prim.Native.Nat.{ℕ, suc, _+_, _-_, _*_}
 use Prim.Native.Char.{code}
 use mathlib.Core.Bool.{Bool, true, false, cond, not, _&&_}
 use mathlib.Core.List.{List, [], _∷_, _++_}
@@ -7,7 +7,7 @@ use mathlib.Core.Option.{Option, none, some}
 use lib.Dec.{eqb, leb, ltb}
 use lib.ListN.{length}
 use Rattle.scope.specs.Text.{bytes}
-use Rattle.scope.specs.Sheet.{Number, number, Clause, mostLiterals}
+use Rattle.scope.specs.Sheet.{number, Clause, mostLiterals}
 use Rattle.scope.specs.Reading.{Row, firstFault, Read, accepted, refused, onward, when}
 use Rattle.scope.specs.Typed.{Formula, Typed, typed, Level, ors, ands, factor, mostNested, mostText, lineRows, sheetOf}
 

@@ -1,6 +1,6 @@
 -- What reading a typed text gives, in plain quantifiers: the sheet that it stands for, or the first cause to turn it down. Assumes nothing.
 use Prim.Native.Nat.{ℕ, suc, _≤_, _<_}
-use mathlib.Core.List.{List, [], _∷_, IsPrefix}
+use mathlib.Core.List.{List, _∷_, IsPrefix}
 use lib.ListN.{length, take}
 use Rattle.scope.specs.Sheet.{All}
 use Rattle.scope.specs.Reading.{Row, Read}

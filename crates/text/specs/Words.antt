@@ -5,7 +5,7 @@ use mathlib.Core.List.{List, [], _∷_}
 use mathlib.Core.Path.{_≡_}
 use lib.ListN.{length, drop}
 use Rattle.scope.specs.Typed.{mostNumber}
-use Rattle.scope.specs.Parsing.{Slot, State, Outcome, stuck, word, digits, zeroOk, numberDone, walk}
+use Rattle.scope.specs.Parsing.{Slot, State, stuck, word, digits, zeroOk, numberDone, walk}
 use Rattle.text.specs.declared.words.Word.{Word}
 
 -- from place `at` no legal text goes on at place n

@@ -97,7 +97,7 @@ module _ (r : Read) (h : Source r) (o : Outcome) (l : List ℕ) (g : answerFrom 
       omega (arith, m i k)
 
 -- what is put into a buffer of the same length is no longer than it
-pub listing-within : (r : Read) (out after : List ℕ) → after ≡ listingInto r out → length after ≡ length out → listingLength r out ≤ length out
+listing-within : (r : Read) (out after : List ℕ) → after ≡ listingInto r out → length after ≡ length out → listingLength r out ≤ length out
 unfolding listingInto listingLength
 listing-within r out after e n = go (ltb (length out) 71094) (ap length (sym e) ∙ n)
   where

@@ -153,7 +153,7 @@ pub rules-on-sheet : (v : Typed) (s : List ℕ) → Legal v s → All Met (lineR
 unfolding lineRows
 rules-on-sheet v s l (p, (q, m)) = formulas-on-sheet (v .switches) (v .faults) 0 0 (l .written) (all-parts Met (ruleRows (v .switches) (v .faults) 0 0 (v .rules)) (wishRows (v .switches) (v .faults) 0 (v .wishes)) m .0)
 
-pub sheet-valid : (v : Typed) (s : List ℕ) → Legal v s → All Met (lineRows v) → Valid (sheetOf v)
+sheet-valid : (v : Typed) (s : List ℕ) → Legal v s → All Met (lineRows v) → Valid (sheetOf v)
 unfolding lineRows sheetOf
 sheet-valid v s l m =
     let a : ℕ = v .switches in
@@ -222,7 +222,7 @@ fault-number (FirstLine.later m f) (n, ns) = fault-number f ns
 
 -- ---- the source
 
-pub text-refusal : {s : List ℕ} {c place column : ℕ} → TextRead s (reading.refused c place column) → Refusal c place column
+text-refusal : {s : List ℕ} {c place column : ℕ} → TextRead s (reading.refused c place column) → Refusal c place column
 text-refusal (tooLong h) = record { some = omega arith; own = λ e. omega arith; number = omega arith; place = omega arith; column = omega arith }
 text-refusal (notLegal h l n) = record { some = omega arith; own = λ e. omega arith; number = omega arith; place = omega (arith, n .within); column = omega arith }
 text-refusal {s} (atFault {v} h l e) =

@@ -31,7 +31,7 @@ step-walk st b t e = rw e
 -- ---- a number
 
 -- a state that waits for no second digit, and in which no text ends
-abbrev Plain : State → Type 0
+abbrev pub Plain : State → Type 0
 Plain st = ((b : ℕ) → step st b ≡ move st b) × (atEnd st ≡ stuck 0)
 
 operand-plain : (k : Around factor) (x : Formula) → Plain (operandDone k x)
@@ -40,7 +40,7 @@ operand-plain (head a) x = (λ b. refl, refl)
 operand-plain (amp y a) x = (λ b. refl, refl)
 operand-plain (bang k) x = operand-plain k (Formula.not x)
 
-number-plain : (slot : Slot) (n : ℕ) → Plain (numberDone slot n)
+pub number-plain : (slot : Slot) (n : ℕ) → Plain (numberDone slot n)
 unfolding numberDone step atEnd
 number-plain Slot.switches n = (λ b. refl, refl)
 number-plain (Slot.faults a) n = (λ b. refl, refl)

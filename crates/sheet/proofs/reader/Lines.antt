@@ -16,13 +16,12 @@ use Rattle.scope.specs.Reading.{literals, zeros, when, joined, rows, tests, add
 use Rattle.scope.specs.Causes.{Met, before, Passed, size as wrong-size, line}
 use Rattle.scope.specs.laws.Tests.{clash, both, up-to}
 use Rattle.scope.specs.laws.Refusals.{cause-refuses, line-within, column-of, no-cause-accepts}
-use Rattle.sheet.specs.Tables.{padded, tables, filled, refusal, outcome}
+use Rattle.sheet.specs.Tables.{filled, refusal, outcome}
 use Rattle.sheet.specs.Lines.{letterFrom, numbersFrom, lineFrom, LineRead}
 use Rattle.sheet.specs.Steps.{Counted, Held, Few, Fault, RoomFor, Room, Sized}
 use Rattle.sheet.specs.laws.Bounds.{Bounds, before-bounds}
 use Rattle.sheet.specs.laws.Held.{counts, tablesFrom, nothing-held, held-tables}
 use Rattle.sheet.specs.declared.line.Line.{Line}
-use Rattle.sheet.specs.declared.tables.Tables.{Tables}
 use Rattle.sheet.specs.declared.tables.Counts.{Counts}
 use Rattle.sheet.proofs.causes.Rows.{joined-none}
 

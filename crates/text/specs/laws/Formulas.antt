@@ -1,25 +1,25 @@
 -- What the steps over a formula give is put together level by level. Assumes nothing.
-use Prim.Native.Nat.{ℕ, zero, suc, _+_, _-_, _≤_, _<_}
+use Prim.Native.Nat.{ℕ, suc, _+_, _-_, _≤_, _<_}
 use Prim.Native.Char.{code}
-use native.Mathlib.Numerals.{add-one}
 use native.Mathlib.Omega.{arith}
-use mathlib.Core.Bool.{Bool, true, false, cond, not, _&&_}
+use mathlib.Core.Bool.{Bool, true, false, cond, not, _&&_, and-assoc}
 use mathlib.Core.List.{List, [], _∷_, _++_, append-assoc, append-nil}
 use mathlib.Core.Logic.{_≢_, _⊎_, inl, inr}
 use mathlib.Core.Path.{_≡_, refl, sym, ap, subst, _∙_}
 use lib.Dec.{eqb, leb}
-use lib.ListN.{length, length-append}
+use lib.ListN.{length}
 use borrow.Author.Tests.{eqb-true, eqb-false, eq-eqb}
 use Rattle.scope.specs.Sheet.{Gate, mostGates}
 use Rattle.scope.specs.Typed.{Formula, typed, ors, ands, factor, mostText, mostNested, operators, point, gatesOf, known}
 use Rattle.scope.specs.laws.Tests.{clash}
+use Rattle.scope.specs.laws.Fields.{length-snoc}
 use Rattle.scope.specs.Parsing as parsing
 use Rattle.scope.specs.Parsing.{Around, line, Slot, digits, zeroOk, numberDone, bracket, first, bar, head, amp, bang, nested, operand, after, operandDone, joinedOr, outside}
 use Rattle.sheet.specs.Steps.{GateColumns}
 use Rattle.sheet.specs.Tables.{kindOf, leftOf, rightOf}
 use Rattle.text.specs.Look.{end, look, skip}
 use Rattle.text.specs.Words.{Stuck, Came, NumberRead}
-use Rattle.text.specs.Formulas.{Holds, Built, Filled, FactorCame, AndsCame, OrsCame, OrsCome, Good, LevelRead, FactorRead, AndsRead, OrsRead, AtomRead, Asked, notSign, openSign, andSign, orSign, signAt, operandAt, goesOn, bytesLeft, Ends, gated, Gated, badAt, moved, closedOf}
+use Rattle.text.specs.Formulas.{Holds, Built, Filled, OrsCome, LevelRead, FactorRead, AndsRead, OrsRead, AtomRead, Asked, notSign, openSign, andSign, orSign, signAt, operandAt, goesOn, bytesLeft, Ends, gated, Gated, badAt, moved, closedOf}
 use Rattle.text.specs.declared.formula.Parsed.{Parsed}
 use Rattle.text.specs.declared.words.Word.{Word}
 use Rattle.text.specs.laws.Walks.{stands, came-came, came-stuck}
@@ -44,14 +44,14 @@ module _ (a f letter l m : ℕ) (p r : Parsed) (kind left right : List ℕ) wher
   gated-full b n e = record {
     stays = λ t. clash t b;
     adds = λ t. e;
-    holds = λ t gs g h x y z. record { count = omega (arith, h .count, length-append gs (g ∷ [])); columns = λ i. absurd (omega arith) };
+    holds = λ t gs g h x y z. record { count = omega (arith, h .count, length-snoc gs g); columns = λ i. absurd (omega arith) };
   }
 
   pub gated-put : (kinds lefts rights : List ℕ) → p .bad ≡ false → p .gates < mostGates → r ≡ gated a f p → ((gs : List Gate) (g : Gate) → p .gates ≡ length gs → GateColumns gs kind left right → letter ≡ kindOf g → l ≡ leftOf g → m ≡ rightOf g → GateColumns (gs ++ g ∷ []) kinds lefts rights) → Gated a f letter l m p r kind left right kinds lefts rights
   gated-put kinds lefts rights b n e put = record {
     stays = λ t. clash t b;
     adds = λ t. e;
-    holds = λ t gs g h x y z. record { count = omega (arith, h .count, length-append gs (g ∷ [])); columns = λ i. put gs g (h .count) (h .columns (omega arith)) x y z };
+    holds = λ t gs g h x y z. record { count = omega (arith, h .count, length-snoc gs g); columns = λ i. put gs g (h .count) (h .columns (omega arith)) x y z };
   }
 
 -- and what comes next is the same
@@ -71,17 +71,13 @@ pub record Joint (J : Formula → Formula → Formula) (G : ℕ → ℕ → Gate
   pub gates-are : (a f g : ℕ) (x y : Formula) → gatesOf a f g (J x y) ≡ gatesOf a f g x ++ gatesOf a f (g + operators x) y ++ G (point a f g x) (point a f (g + operators x) y) ∷ []
   pub kind-is : (p q : ℕ) → (letter ≡ kindOf (G p q)) × (p ≡ leftOf (G p q)) × (q ≡ rightOf (G p q))
 
-pub and-joint : Joint Formula.and Gate.and (code "A")
+and-joint : Joint Formula.and Gate.and (code "A")
 unfolding operators known point gatesOf
 and-joint = record { operators-are = λ x y. refl; known-is = λ a f x y. refl; point-is = λ a f g x y. refl; gates-are = λ a f g x y. refl; kind-is = λ p q. (refl, refl, refl) }
 
-pub or-joint : Joint Formula.or Gate.or (code "O")
+or-joint : Joint Formula.or Gate.or (code "O")
 unfolding operators known point gatesOf
 or-joint = record { operators-are = λ x y. refl; known-is = λ a f x y. refl; point-is = λ a f g x y. refl; gates-are = λ a f g x y. refl; kind-is = λ p q. (refl, refl, refl) }
-
-and-assoc : (a b c : Bool) → ((a && b) && c) ≡ (a && (b && c))
-and-assoc true b c = refl
-and-assoc false b c = refl
 
 module _ (J : Formula → Formula → Formula) (G : ℕ → ℕ → Gate) (letter : ℕ) (j : Joint J G letter) (a f g : ℕ) (ok : Bool) (at : ℕ) (x y : Formula) (p q r : Parsed) (from : ℕ) (later : p .at < from) (b : Built a f g ok at x p) (c : Built a f (p .gates) (p .known) from y q) where
   join-built : r ≡ gated a f q → Built a f g ok at (J x y) r

@@ -1,7 +1,6 @@
 -- What the steps over the head and the rule lines give is put together. Assumes nothing.
 use Prim.Native.Nat.{ℕ, suc, _+_, _-_, _≤_, _<_}
 use Prim.Native.Char.{code}
-use native.Mathlib.Nat.{add-zero, add-assoc}
 use native.Mathlib.Omega.{arith}
 use mathlib.Core.Bool.{Bool, true, false, cond, not, _&&_}
 use mathlib.Core.List.{List, [], _∷_, _++_, append-assoc, append-nil}
@@ -16,8 +15,9 @@ use Rattle.scope.specs.Causes.{Met, First}
 use Rattle.scope.specs.Text.{bytes}
 use Rattle.scope.specs.Typed.{Formula, Typed, typed, mostNested, operators, point, gatesOf, allGates, allPoints, known, ruleRows, wishRows, lineRows}
 use Rattle.scope.specs.Texts.{FirstLine, here, later}
-use Rattle.scope.specs.Parsing.{line, first, head, nested, State, word, digits, switches, faults, ruleLine, operand, after, addRule, joinedOr, start, numberDone, zeroOk, move, step}
+use Rattle.scope.specs.Parsing.{line, first, head, nested, State, word, digits, switches, faults, ruleLine, operand, after, addRule, joinedOr, start, numberDone, move, step}
 use Rattle.scope.specs.laws.Tests.{clash}
+use Rattle.scope.specs.laws.Inverse.{all-append}
 use Rattle.scope.specs.laws.TypedSheets.{length-gates, length-points}
 use Rattle.sheet.specs.Steps.{rowOf}
 use Rattle.sheet.specs.Steps as sheet
@@ -25,7 +25,7 @@ use Rattle.sheet.specs.laws.Rows.{row, none-left}
 use Rattle.text.specs.Look.{end, look, skip}
 use Rattle.text.specs.Words.{Stuck, Came, WordRead, NamedRead}
 use Rattle.text.specs.Formulas.{Holds, OrsRead, OrsCome, Asked, Ends, andSign, orSign, badAt, moved, fedOf}
-use Rattle.text.specs.Lines.{Faulted, FirstOf, HeadRead, stuckAt, ruleLetter, goesOnWith, NoMore, linesLeft, RulesHold, Begun, RulesTold, RulesRead, ruleFault, WithRule}
+use Rattle.text.specs.Lines.{Faulted, FirstOf, HeadRead, stuckAt, ruleLetter, goesOnWith, NoMore, linesLeft, RulesHold, RulesTold, RulesRead, ruleFault, WithRule}
 use Rattle.text.specs.declared.formula.Parsed.{Parsed}
 use Rattle.text.specs.declared.formula.Points.{Points}
 use Rattle.text.specs.declared.head.Head.{Head}
@@ -45,10 +45,6 @@ fault-after : {c : ℕ} (rss : List (List Row)) (rs : List Row) → All Met rss 
 fault-after [] rs m f = here f
 fault-after {c} (qs ∷ rss) rs (m, ms) f = subst (λ k. FirstLine c k (qs ∷ rss ++ rs ∷ [])) (omega arith) (later m (fault-after rss rs ms f))
 
-all-met : (rss : List (List Row)) (rs : List Row) → All Met rss → Met rs → All Met (rss ++ rs ∷ [])
-all-met [] rs ms m = (m, tt)
-all-met (qs ∷ rss) rs (n, ms) m = (n, all-met rss rs ms m)
-
 module _ (rss : List (List Row)) (rs : List Row) (f : Fault) (h : Faulted rss f) where
   -- an earlier line has a fault
   pub faulted-before : f .number ≢ 0 → Faulted (rss ++ rs ∷ []) f
@@ -56,7 +52,7 @@ module _ (rss : List (List Row)) (rs : List Row) (f : Fault) (h : Faulted rss f)
 
   pub faulted-here : f .number ≡ 0 → (number k : ℕ) → sheet.Fault rs number → k ≡ length rss + 1 → Faulted (rss ++ rs ∷ []) record { number = number; line = k }
   faulted-here z number k g e = record {
-    met = λ n. all-met rss rs (h .met z) (g .met n);
+    met = λ n. all-append Met rss (rs ∷ []) (h .met z) (g .met n, tt);
     first = λ n. rw e (fault-after rss rs (h .met z) (g .first n));
   }
 

@@ -1,17 +1,17 @@
 -- How a walk goes on at the signs of a formula. Assumes nothing.
-use Prim.Native.Nat.{ℕ, zero, suc, _+_, _-_, _≤_, _<_}
+use Prim.Native.Nat.{ℕ, _+_, _-_, _≤_, _<_}
 use Prim.Native.Char.{code}
 use native.Mathlib.Omega.{arith}
 use mathlib.Core.Bool.{Bool, true, false, cond}
-use mathlib.Core.List.{List, [], _∷_}
+use mathlib.Core.List.{List}
 use mathlib.Core.Logic.{_≢_}
-use mathlib.Core.Option.{Option, none, some}
-use mathlib.Core.Path.{_≡_, refl, sym, ap, subst, _∙_}
-use lib.Dec.{eqb, ltb}
+use mathlib.Core.Option.{none, some}
+use mathlib.Core.Path.{_≡_, refl, sym, subst, _∙_}
+use lib.Dec.{eqb}
 use lib.ListN.{length, drop}
 use borrow.Author.Tests.{lt-ltb, le-ltb, eqb-true, eqb-false, eq-eqb, ne-eqb}
-use Rattle.scope.specs.Typed.{Formula, Typed, ors, ands, factor, mostNested}
-use Rattle.scope.specs.Parsing.{Around, line, bracket, first, bar, head, amp, bang, nested, State, stuck, Slot, digits, ruleLine, spaced, operand, after, sign, addRule, operandDone, joinedOr, outside, closed, fed, on, nestedMore, move, step, atEnd, goOn, walk}
+use Rattle.scope.specs.Typed.{Formula, Typed, ands, factor, mostNested}
+use Rattle.scope.specs.Parsing.{Around, line, bracket, first, bar, head, amp, bang, nested, digits, ruleLine, spaced, operand, after, sign, addRule, operandDone, joinedOr, outside, closed, fed, on, nestedMore, move, step, atEnd, walk}
 use Rattle.scope.specs.Parsing as parsing
 use Rattle.text.specs.Look.{end, look, skip}
 use Rattle.text.specs.Words.{Stuck, Came}
@@ -26,11 +26,11 @@ lineFeed = code "\n"
 
 -- ---- places
 
-pub skip-space : (s : List ℕ) (i : ℕ) → look s i ≡ space → skip s i ≡ i + 1
+skip-space : (s : List ℕ) (i : ℕ) → look s i ≡ space → skip s i ≡ i + 1
 unfolding skip
 skip-space s i e = rw (eq-eqb (look s i) space e)
 
-pub skip-here : (s : List ℕ) (i : ℕ) → look s i ≢ space → skip s i ≡ i
+skip-here : (s : List ℕ) (i : ℕ) → look s i ≢ space → skip s i ≡ i
 unfolding skip
 skip-here s i e = rw (ne-eqb (look s i) space e)
 

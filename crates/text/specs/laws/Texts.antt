@@ -1,31 +1,28 @@
 -- What the head, the rules and the wishes of a text say is what is read from it. Assumes nothing.
-use Prim.Native.Nat.{ℕ, suc, _+_, _-_, _≤_, _<_}
+use Prim.Native.Nat.{ℕ, _+_, _-_, _≤_, _<_}
 use native.Mathlib.Numerals.{add-one}
 use native.Mathlib.Omega.{arith}
-use mathlib.Core.List.{List, [], _∷_}
+use mathlib.Core.List.{List, []}
 use mathlib.Core.Logic.{_≢_}
-use mathlib.Core.Path.{_≡_, refl, sym, ap, subst, _∙_}
-use mathlib.Core.Bool.{Bool, true, false}
-use lib.ListN.{length, drop, replicate, drop-of-length-le}
+use mathlib.Core.Path.{_≡_, refl, _∙_}
+use mathlib.Core.Bool.{false}
+use lib.ListN.{length, replicate, drop-of-length-le}
 use borrow.Author.Tests.{le-leb, lt-leb, ne-eqb}
-use Rattle.scope.specs.Sheet.{All, Sheet, Valid, mostGates, mostRules, mostWishes}
+use Rattle.scope.specs.Sheet.{Sheet, Valid, mostGates, mostRules, mostWishes}
 use Rattle.scope.specs.Reading.{accepted, refused}
-use Rattle.scope.specs.Causes.{Met}
 use Rattle.scope.specs.Claims.{text-read, text-source}
-use Rattle.scope.specs.Typed.{Formula, Typed, typed, Legal, mostText, allGates, allPoints, lineRows, sheetOf}
+use Rattle.scope.specs.Typed.{Typed, typed, Legal, mostText, allGates, allPoints, sheetOf}
 use Rattle.scope.specs.Texts.{atFault}
 use Rattle.scope.specs.Texts as texts
-use Rattle.scope.specs.Parsing.{State, ruleLine, wishLine, start, legal, stuck, move, step, atEnd, walk, textOf, readText}
+use Rattle.scope.specs.Parsing.{ruleLine, wishLine, start, legal, move, step, atEnd, walk, readText}
 use Rattle.scope.specs.laws.Completed.{walk-legal}
 use Rattle.scope.specs.laws.TypedSheets.{length-points}
 use Rattle.sheet.specs.declared.tables.Tables.{Tables}
-use Rattle.sheet.specs.Steps.{Held}
 use Rattle.sheet.specs.Tables.{refusal, outcome, Sourced}
 use Rattle.sheet.specs.laws.Held.{counts, tablesFrom, nothing-held, held-tables}
 use Rattle.text.specs.Look.{look}
-use Rattle.text.specs.Words.{Stuck, Came}
-use Rattle.text.specs.Formulas.{Holds}
-use Rattle.text.specs.Lines.{Faulted, HeadTold, HeadLines, ruleLetter, wishLetter, NoMore, RulesHold, WishesHold, RulesTold, WishesTold, WishesRead, Further}
+use Rattle.text.specs.Words.{Stuck}
+use Rattle.text.specs.Lines.{HeadTold, HeadLines, ruleLetter, wishLetter, NoMore, RulesTold, WishesTold, Further}
 use Rattle.text.specs.declared.formula.Points.{Points}
 use Rattle.text.specs.declared.head.Head.{Head}
 use Rattle.text.specs.declared.lines.Lines.{Lines}

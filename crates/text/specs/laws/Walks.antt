@@ -3,11 +3,9 @@ use Prim.Native.Nat.{ℕ, suc, _+_, _-_, _≤_, _<_}
 use native.Mathlib.Decide.{decLe}
 use native.Mathlib.Numerals.{add-one}
 use native.Mathlib.Omega.{arith}
-use mathlib.Core.Bool.{Bool, true, false}
-use mathlib.Core.List.{List, [], _∷_}
-use mathlib.Core.Option.{Option, none, some}
-use mathlib.Core.Path.{_≡_, refl, sym, ap, _∙_}
-use lib.Dec.{ltb}
+use mathlib.Core.List.{List}
+use mathlib.Core.Option.{none, some}
+use mathlib.Core.Path.{_≡_, sym, ap, _∙_}
 use lib.ListN.{length, getD, drop, length-drop, drop-of-length-le}
 use lib.Seq.{drop-cons}
 use borrow.Author.Tests.{lt-ltb, le-ltb}
@@ -17,11 +15,11 @@ use Rattle.text.specs.Words.{Stuck, Came}
 
 -- ---- what stands at a place
 
-pub look-byte : (s : List ℕ) (i : ℕ) → i < length s → look s i ≡ getD s i 0
+look-byte : (s : List ℕ) (i : ℕ) → i < length s → look s i ≡ getD s i 0
 unfolding look
 look-byte s i h = rw (lt-ltb i (length s) h)
 
-pub look-end : (s : List ℕ) (i : ℕ) → length s ≤ i → look s i ≡ end
+look-end : (s : List ℕ) (i : ℕ) → length s ≤ i → look s i ≡ end
 unfolding look
 look-end s i h = rw (le-ltb i (length s) h)
 
@@ -35,7 +33,7 @@ stands s i h = go (decLe (length s) i)
 
 -- ---- one byte
 
-pub walk-byte : (s : List ℕ) (st : State) (at : ℕ) → at < length s → walk st (drop at s) ≡ goOn (step st (look s at)) (length s - at) (λ to. walk to (drop (at + 1) s))
+walk-byte : (s : List ℕ) (st : State) (at : ℕ) → at < length s → walk st (drop at s) ≡ goOn (step st (look s at)) (length s - at) (λ to. walk to (drop (at + 1) s))
 unfolding walk
 walk-byte s st at h =
     let n : suc (length (drop (suc at) s)) ≡ length s - at = omega (arith, length-drop (suc at) s) in

@@ -4,19 +4,18 @@ use Prim.Native.Char.{code}
 use native.Mathlib.Nat.{add-zero}
 use native.Mathlib.Numerals.{add-one}
 use native.Mathlib.Omega.{arith}
-use mathlib.Core.Bool.{Bool, true, false, cond}
+use mathlib.Core.Bool.{Bool, true, false}
 use mathlib.Core.List.{List, [], _∷_}
 use mathlib.Core.Logic.{_≢_, _⊎_, inl, inr}
-use mathlib.Core.Option.{Option, none, some}
-use mathlib.Core.Path.{_≡_, refl, ap, subst, _∙_}
-use lib.Dec.{eqb, leb}
+use mathlib.Core.Option.{none, some}
+use mathlib.Core.Path.{_≡_, refl, _∙_}
 use lib.ListN.{length, getD, drop, drop-of-length-le}
 use lib.Seq.{drop-cons}
 use borrow.Author.Tests.{eq-eqb, ne-eqb, le-leb, lt-leb}
-use Rattle.scope.specs.Parsing.{Around, head, amp, bang, Slot, switches, faults, literal, State, word, digits, second, stuck, operandDone, numberDone, zeroOk, isDigit, move, step, atEnd, walk}
+use Rattle.scope.specs.Parsing.{Slot, State, word, digits, second, numberDone, zeroOk, isDigit, move, step, atEnd, walk}
 use Rattle.scope.specs.Parsing as parsing
-use Rattle.scope.specs.Typed.{Formula, factor}
 use Rattle.scope.specs.laws.Tests.{clash}
+use Rattle.scope.specs.laws.Walked.{number-plain}
 use Rattle.text.specs.Look.{end, look}
 use Rattle.text.specs.Words.{Stuck, Came, rest, Partly, WordRead, NumberRead, NamedRead}
 use Rattle.text.specs.declared.words.Word.{Word}
@@ -73,21 +72,6 @@ module _ (s w : List ℕ) (at : ℕ) where
 
 -- ---- numbers
 
--- after a number comes no second digit
-operand-done : (k : Around factor) (x : Formula) (b : ℕ) → (step (operandDone k x) b ≡ move (operandDone k x) b) × (atEnd (operandDone k x) ≡ stuck 0)
-unfolding operandDone step atEnd
-operand-done (head a) x b = (refl, refl)
-operand-done (amp y a) x b = (refl, refl)
-operand-done (bang k) x b = operand-done k (Formula.not x) b
-
-number-done : (slot : Slot) (n b : ℕ) → (step (numberDone slot n) b ≡ move (numberDone slot n) b) × (atEnd (numberDone slot n) ≡ stuck 0)
-unfolding numberDone step atEnd
-number-done switches n b = (refl, refl)
-number-done (faults a) n b = (refl, refl)
-number-done (parsing.switch k) n b = operand-done k (Formula.switch n) b
-number-done (parsing.fault k) n b = operand-done k (Formula.fault n) b
-number-done (literal v w minus) n b = (refl, refl)
-
 -- a byte that is no digit
 abbrev pub NoDigit : ℕ → Type 0
 NoDigit b = (b < code "0") ⊎ (code "9" < b)
@@ -135,8 +119,8 @@ module _ (s : List ℕ) (zero : Bool) (at : ℕ) (within : at ≤ length s) (r :
       good = λ t slot h.
           let n : ℕ = look s at - code "0" in
           let c : Came s (digits slot) at (second slot n) (at + 1) = first-digit slot in
-          let (m, f) = number-done slot n (look s (at + 1)) in
-          record { ahead = c .ahead; within = c .within; walk = c .walk ∙ alike s (second slot n) (numberDone slot n) (at + 1) (rw (no-digit (look s (at + 1)) d, m)) (rw f) };
+          let (m, f) = number-plain slot n in
+          record { ahead = c .ahead; within = c .within; walk = c .walk ∙ alike s (second slot n) (numberDone slot n) (at + 1) (rw (no-digit (look s (at + 1)) d, m (look s (at + 1)))) (rw f) };
       few = omega arith;
       bad = λ t. clash t refl;
     }

@@ -1,5 +1,3 @@
-use mathlib.Core.Path.{refl, ap, _∙_}
-use lib.Dec.{eqb}
 use Rattle.text.specs.Look.{look}
 use Rattle.text.specs.Formulas.{goesOn}
 use borrow.Author.Needs.{needs}

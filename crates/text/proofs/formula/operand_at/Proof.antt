@@ -1,4 +1,3 @@
-use mathlib.Core.Path.{refl, subst, sym}
 use native.Mathlib.Omega.{arith}
 use denote.Ref.{now}
 use Rattle.text.specs.Look.{skip}

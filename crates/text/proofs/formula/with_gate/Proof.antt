@@ -1,5 +1,4 @@
 use mathlib.Core.Path.{refl}
-use native.Mathlib.Omega.{arith}
 use Rattle.scope.specs.Sheet.{sheet}
 use mathlib.Core.List.{[]}
 use Rattle.text.specs.laws.Formulas.{gated-bad, gated-full, gated-put}

@@ -1,6 +1,6 @@
-use mathlib.Core.List.{[], _∷_}
+use mathlib.Core.List.{[]}
 use mathlib.Core.Path.{refl}
-use lib.ListN.{length-append}
+use Rattle.scope.specs.laws.Fields.{length-snoc}
 use native.Mathlib.Omega.{arith}
 use Rattle.scope.specs.Sheet.{sheet}
 use borrow.Author.Needs.{needs}
@@ -8,13 +8,13 @@ use Rattle.text.proofs.rule.keep_rule.Statement.{statement}
 use Rattle.text.proofs.rule.keep_rule.Tie as tie
 
 returns : tie.Need-returns
-returns c = λ ps h. record { count = omega (arith, h .count, length-append ps (c .before .args .point ∷ [])); column = λ i. absurd (omega arith) }
+returns c = λ ps h. record { count = omega (arith, h .count, length-snoc ps (c .before .args .point)); column = λ i. absurd (omega arith) }
 
 put-rule-requires : tie.Need-put-rule-requires
 put-rule-requires c κs = search needs
 
 returns-2 : tie.Need-returns-2
-returns-2 c = λ ps h. record { count = omega (arith, h .count, length-append ps (c .before .before .before .args .point ∷ [])); column = λ i. c .put-rule .ensures (sheet 0 0 [] ps []) record { switches = refl; faults = refl; gates = refl; rules = h .count; wishes = refl } (h .column (omega arith)) .1 }
+returns-2 c = λ ps h. record { count = omega (arith, h .count, length-snoc ps (c .before .before .before .args .point)); column = λ i. c .put-rule .ensures (sheet 0 0 [] ps []) record { switches = refl; faults = refl; gates = refl; rules = h .count; wishes = refl } (h .column (omega arith)) .1 }
 
 pub keep-rule-spec : {M : Type 1} → statement M
 keep-rule-spec = tie.close (tie.spec returns put-rule-requires returns-2)

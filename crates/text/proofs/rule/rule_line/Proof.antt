@@ -1,4 +1,3 @@
-use mathlib.Core.Path.{refl}
 use native.Mathlib.Omega.{arith}
 use Rattle.text.specs.laws.Lines.{rule-word-bad, rule-asked, rule-bad, rule-good}
 use borrow.Author.Needs.{needs}

@@ -1,4 +1,4 @@
-use mathlib.Core.Path.{refl, sym, _∙_}
+use mathlib.Core.Path.{sym, _∙_}
 use Rattle.scope.specs.laws.Tests.{clash}
 use Rattle.text.specs.Lines.{RulesRead, linesLeft}
 use Rattle.text.specs.laws.Lines.{goes-on-is, no-more, lines-less}

@@ -1,15 +1,11 @@
 use denote.Ref.{now}
 use mathlib.Core.Logic.{inl, inr}
-use mathlib.Core.Path.{_≡_, refl, sym, ap, _∙_}
+use mathlib.Core.Path.{refl, sym, _∙_}
 use native.Mathlib.Omega.{arith}
 use Rattle.text.specs.laws.Words.{number-zero, number-no-zero, number-none, number-one, number-two}
 use borrow.Author.Needs.{needs}
 use Rattle.text.proofs.words.number_at.Statement.{statement}
 use Rattle.text.proofs.words.number_at.Tie as tie
-use Rattle.text.proofs.words.number_at.Reads as reads
-use Rattle.text.proofs.words.number_at.Lts as lts
-use Rattle.text.proofs.reader.look.Reads as look-reads
-use Rattle.text.proofs.words.stuck.Reads as stuck-reads
 
 look-requires : tie.Need-look-requires
 look-requires c κs = search needs

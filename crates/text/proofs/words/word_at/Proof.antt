@@ -1,17 +1,12 @@
 use Prim.Native.Nat.{_-_}
 use native.Mathlib.Omega.{arith}
-use mathlib.Core.Path.{_≡_, refl, sym, _∙_}
+use mathlib.Core.Path.{refl, sym, _∙_}
 use lib.ListN.{length}
 use Rattle.text.specs.Words.{Partly}
 use Rattle.text.specs.laws.Words.{word-start, word-more, word-halts, word-ends}
 use borrow.Author.Needs.{needs}
 use Rattle.text.proofs.words.word_at.Statement.{statement}
 use Rattle.text.proofs.words.word_at.Tie as tie
-use Rattle.text.proofs.words.word_at.Reads as reads
-use Rattle.text.proofs.words.word_at.Lts as lts
-use Rattle.text.proofs.reader.look.Reads as look-reads
-use Rattle.text.proofs.words.stuck.Reads as stuck-reads
-use Rattle.text.proofs.words.wide.Reads as wide-reads
 
 abbrev Inv-loop : tie.InvT-loop
 Inv-loop s at w i₀ i = Partly s w at i
