@@ -138,6 +138,17 @@ pub record Gated (a f letter l m : ℕ) (p r : Parsed) (kind left right kinds le
   pub adds : p .bad ≡ false → r ≡ gated a f p
   pub holds : p .bad ≡ false → (gs : List Gate) (g : Gate) → Holds gs (p .gates) kind left right → letter ≡ kindOf g → l ≡ leftOf g → m ≡ rightOf g → Holds (gs ++ g ∷ []) (p .gates + 1) kinds lefts rights
 
+-- after a `|`, unless it is the first
+pub record OrGated (first : Bool) (a f l : ℕ) (q r : Parsed) (kind left right kinds lefts rights : List ℕ) : Type 0 where
+  pub alone : first ≡ true → (r ≡ q) × (kinds ≡ kind) × (lefts ≡ left) × (rights ≡ right)
+  pub joined : first ≡ false → Gated a f (code "O") l (q .point) q r kind left right kinds lefts rights
+
+-- ---- a turn of the loop over `|`: what is read so far, p, ends before a `|`, or nothing is
+pub record OrsTurn (s : List ℕ) (depth a f g : ℕ) (ok : Bool) (at : ℕ) (first : Bool) (from : ℕ) (p : Parsed) (kind left right kinds lefts rights : List ℕ) : Type 0 where
+  pub asked : Asked s a f (p .gates) from
+  pub begins : first ≡ true → (from ≡ at) × (p .gates ≡ g) × (p .known ≡ ok) × (kinds ≡ kind) × (lefts ≡ left) × (rights ≡ right)
+  pub goes : first ≡ false → OrsRead s depth a f g ok at p kind left right kinds lefts rights × (goesOn s p orSign ≡ true) × (from ≡ operandAt s (p .at))
+
 -- ---- the bracket or the line feed after a formula
 
 abbrev pub badAt : ℕ → Parsed

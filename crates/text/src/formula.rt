@@ -5,7 +5,7 @@ ghost use mathlib.Core.Path.{_≡_};
 ghost use Prim.Native.Nat.{_≤_, _<_};
 ghost use Rattle.scope.specs.Typed.{mostText, mostNumber};
 ghost use Rattle.text.specs.Look as place;
-ghost use Rattle.text.specs.Formulas.{Asked, AtomRead, FactorRead, AndsRead, OrsRead, Ends, Gated, notSign, openSign, andSign, orSign, goesOn, operandAt, badAt, closedOf, fedOf};
+ghost use Rattle.text.specs.Formulas.{Asked, AtomRead, FactorRead, AndsRead, OrsRead, Ends, Gated, OrGated, notSign, openSign, andSign, orSign, goesOn, operandAt, badAt, closedOf, fedOf};
 use crate::reader::look;
 use crate::reader::skip;
 use crate::words::number_at;
@@ -261,7 +261,26 @@ fn and_level(
     same(p)
 }
 
-// These joined by `|`: a formula.
+// After a `|` the gate of the two that it joins; the first stands alone.
+fn or_gate(
+    first: bool,
+    l: u32,
+    q: Parsed,
+    c: Points,
+    kind: &mut [u8; MOST_GATES],
+    left: &mut [u32; MOST_GATES],
+    right: &mut [u32; MOST_GATES],
+) -> Parsed
+    requires { ⌜ (c .switches ≤ mostNumber) × (c .faults ≤ mostNumber) × (q .gates ≤ mostText) ⌝ }
+    ensures { λ r. ⌜ OrGated first (c .switches) (c .faults) l q r (now (kind .entry)) (now (left .entry)) (now (right .entry)) (now (kind .exit)) (now (left .exit)) (now (right .exit)) ⌝ }
+{
+    if first {
+        return same(q);
+    }
+    with_gate(q, sheet::OR, l, q.point, c, kind, left, right)
+}
+
+// These joined by `|`: a formula. `and_level` is called in one place, so that the compiler can put it there.
 pub fn or_level(
     s: &[u8],
     at: usize,
@@ -276,11 +295,23 @@ pub fn or_level(
     requires { ⌜ Asked (now s) (c .switches) (c .faults) gates at ⌝ }
     ensures { λ r. ⌜ OrsRead (now (s .entry)) depth (c .switches) (c .faults) gates known at r (now (kind .entry)) (now (left .entry)) (now (right .entry)) (now (kind .exit)) (now (left .exit)) (now (right .exit)) × Ends (now (s .entry)) r andSign × Ends (now (s .entry)) r orSign ⌝ }
 {
-    let mut p = and_level(s, at, depth, c, gates, known, kind, left, right);
-    while goes_on(s, p, BAR) {
-        let from = operand_at(s, p.at);
+    let mut first = true;
+    let mut from = at;
+    let mut p = Parsed {
+        at,
+        point: 0,
+        known,
+        bad: false,
+        gates,
+    };
+    loop {
         let q = and_level(s, from, depth, c, p.gates, p.known, kind, left, right);
-        p = with_gate(q, sheet::OR, p.point, q.point, c, kind, left, right);
+        let r = or_gate(first, p.point, q, c, kind, left, right);
+        if !goes_on(s, r, BAR) {
+            return same(r);
+        }
+        from = operand_at(s, r.at);
+        first = false;
+        p = r;
     }
-    same(p)
 }

@@ -19,7 +19,7 @@ use Rattle.sheet.specs.Steps.{GateColumns}
 use Rattle.sheet.specs.Tables.{kindOf, leftOf, rightOf}
 use Rattle.text.specs.Look.{end, look, skip}
 use Rattle.text.specs.Words.{Stuck, Came, NumberRead}
-use Rattle.text.specs.Formulas.{Holds, Built, Filled, OrsCome, LevelRead, FactorRead, AndsRead, OrsRead, AtomRead, Asked, notSign, openSign, andSign, orSign, signAt, operandAt, goesOn, bytesLeft, Ends, gated, Gated, badAt, moved, closedOf}
+use Rattle.text.specs.Formulas.{Holds, Built, Filled, OrsCame, OrsStuck, OrsCome, LevelRead, FactorRead, AndsRead, OrsRead, AtomRead, Asked, notSign, openSign, andSign, orSign, signAt, operandAt, goesOn, bytesLeft, Ends, gated, Gated, OrGated, OrsTurn, badAt, moved, closedOf}
 use Rattle.text.specs.declared.formula.Parsed.{Parsed}
 use Rattle.text.specs.declared.words.Word.{Word}
 use Rattle.text.specs.laws.Walks.{stands, came-came, came-stuck}
@@ -53,14 +53,6 @@ module _ (a f letter l m : ℕ) (p r : Parsed) (kind left right : List ℕ) wher
     adds = λ t. e;
     holds = λ t gs g h x y z. record { count = omega (arith, h .count, length-snoc gs g); columns = λ i. put gs g (h .count) (h .columns (omega arith)) x y z };
   }
-
--- and what comes next is the same
-pub gated-ends : (s : List ℕ) (a f letter l m : ℕ) (p r : Parsed) (kind left right kinds lefts rights : List ℕ) (b : ℕ) → Gated a f letter l m p r kind left right kinds lefts rights → Ends s p b → Ends s r b
-gated-ends s a f letter l m p r kind left right kinds lefts rights b h e = go (p .bad) refl
-  where
-    go : (t : Bool) → p .bad ≡ t → Ends s r b
-    go true t = rw (h .stays t) e
-    go false t = rw (h .adds t) (λ u. e t)
 
 -- ---- an operator that joins two formulas
 
@@ -125,7 +117,7 @@ module _ (s : List ℕ) (depth a f g : ℕ) (ok : Bool) (at : ℕ) (r : Parsed) 
   }
 
   -- and these are the first of those joined by `|`
-  pub ors-first : AndsRead s depth a f g ok at r kind left right kinds lefts rights → OrsRead s depth a f g ok at r kind left right kinds lefts rights
+  ors-first : AndsRead s depth a f g ok at r kind left right kinds lefts rights → OrsRead s depth a f g ok at r kind left right kinds lefts rights
   unfolding nested
   ors-first h = record {
     within = h .within;
@@ -238,7 +230,7 @@ module _ (s : List ℕ) (depth a f g : ℕ) (ok : Bool) (at : ℕ) (asked : Aske
           }
 
   -- one more after `|`
-  pub ors-more : OrsRead s depth a f g ok at p kind left right kinds lefts rights → goesOn s p orSign ≡ true
+  ors-more : OrsRead s depth a f g ok at p kind left right kinds lefts rights → goesOn s p orSign ≡ true
       → AndsRead s depth a f (p .gates) (p .known) (operandAt s (p .at)) q kinds lefts rights mid₁ mid₂ mid₃
       → Gated a f (code "O") (p .point) (q .point) q r mid₁ mid₂ mid₃ ends₁ ends₂ ends₃ → OrsRead s depth a f g ok at r kind left right ends₁ ends₂ ends₃
   unfolding nested
@@ -285,6 +277,60 @@ module _ (s : List ℕ) (depth a f g : ℕ) (ok : Bool) (at : ℕ) (asked : Aske
               filled = join-filled Formula.or Gate.or (code "O") or-joint a f g ok at x y p q r (operandAt s (p .at)) (operand-later s (p .at)) (h .good good-p .built) (i .good b .built) kind left right kinds lefts rights mid₁ mid₂ mid₃ ends₁ ends₂ ends₃ (h .good good-p .filled) (i .good b .filled) k b;
             };
           }
+
+-- ---- a turn of the loop over `|`
+
+pub turn-begins : (s : List ℕ) (depth a f g : ℕ) (ok : Bool) (at : ℕ) (p : Parsed) (kind left right : List ℕ) → Asked s a f g at → p .gates ≡ g → p .known ≡ ok → OrsTurn s depth a f g ok at true at p kind left right kind left right
+turn-begins s depth a f g ok at p kind left right asked e k = record {
+  asked = rw e asked;
+  begins = λ t. (refl, e, k, refl, refl, refl);
+  goes = λ t. clash refl t;
+}
+
+module _ (s : List ℕ) (depth a f g : ℕ) (ok : Bool) (at : ℕ) (asked : Asked s a f g at) (first : Bool) (from : ℕ) (p q r : Parsed) (kind left right kinds lefts rights mid₁ mid₂ mid₃ ends₁ ends₂ ends₃ : List ℕ) (turn : OrsTurn s depth a f g ok at first from p kind left right kinds lefts rights) (hq : AndsRead s depth a f (p .gates) (p .known) from q kinds lefts rights mid₁ mid₂ mid₃) (gate : OrGated first a f (p .point) q r mid₁ mid₂ mid₃ ends₁ ends₂ ends₃) where
+  pub turn-read : OrsRead s depth a f g ok at r kind left right ends₁ ends₂ ends₃
+  turn-read = go first refl
+    where
+      go : (t : Bool) → first ≡ t → OrsRead s depth a f g ok at r kind left right ends₁ ends₂ ends₃
+      go true t =
+          let (i, e, k, u, v, w) = turn .begins t in
+          let (j, x, y, z) = gate .alone t in
+          rw (j, x, y, z) (ors-first s depth a f g ok at q kind left right mid₁ mid₂ mid₃ (rw (i, e, k, u, v, w) at hq))
+      go false t =
+          let (h, e, i) = turn .goes t in
+          ors-more s depth a f g ok at asked p q r kind left right kinds lefts rights mid₁ mid₂ mid₃ ends₁ ends₂ ends₃ h e (rw i at hq) (gate .joined t)
+
+  -- what comes next is the same
+  same-end : (q .bad ≡ r .bad) × (q .at ≡ r .at)
+  same-end = go first refl
+    where
+      go : (t : Bool) → first ≡ t → (q .bad ≡ r .bad) × (q .at ≡ r .at)
+      go true t = rw (gate .alone t .0) (refl, refl)
+      go false t = bad (q .bad) refl
+        where
+          bad : (b : Bool) → q .bad ≡ b → (q .bad ≡ r .bad) × (q .at ≡ r .at)
+          bad true b = rw (gate .joined t .stays b) (refl, refl)
+          bad false b = rw (gate .joined t .adds b) (b, refl)
+
+  pub turn-ends : (b : ℕ) → Ends s q b → Ends s r b
+  turn-ends b e t = let (i, j) = same-end in rw (← j) (e (i ∙ t))
+
+  module _ (more : goesOn s r orSign ≡ true) where
+    pub turn-next : OrsTurn s depth a f g ok at false (operandAt s (r .at)) r kind left right ends₁ ends₂ ends₃
+    turn-next = record {
+      asked = operand-asked s r orSign (omega arith) more (OrsCame s depth at) (OrsStuck s depth at) a f g ok at kind left right ends₁ ends₂ ends₃ asked turn-read;
+      begins = λ t. clash t refl;
+      goes = λ t. (turn-read, more, refl);
+    }
+
+    -- and less is left
+    pub turn-less : length s - operandAt s (r .at) < length s - from
+    turn-less =
+        let (i, j) = same-end in
+        let b : q .bad ≡ false = i ∙ sign-is s r orSign more .0 in
+        let n : operators (hq .good b .formula) + from < q .at = hq .good b .built .ahead in
+        let w : skip s (r .at) < length s = stands s (skip s (r .at)) (sign-stands s r orSign (omega arith) more) in
+        omega (arith, operand-later s (r .at), skip-within s (skip s (r .at) + 1) (omega arith), hq .within)
 
 module _ (s : List ℕ) (depth a f g : ℕ) (ok : Bool) (at : ℕ) (asked : Asked s a f g at) (p r : Parsed) (kind left right kinds lefts rights : List ℕ) where
   deep : depth ≢ 0 → (k : Around factor) → nested k + depth ≡ mostNested → nested k < mostNested

@@ -1,13 +1,15 @@
-use Prim.Native.Nat.{ℕ, _+_, _*_, _<_}
+use Prim.Native.Nat.{ℕ, _+_, _-_, _*_, _<_}
+use lib.ListN.{length}
+use borrow.Author.Tests.{not-true, not-false}
 use native.Mathlib.Omega.{arith}
 use mathlib.Core.List.{List}
 use mathlib.Core.Logic.{inl, inr}
-use mathlib.Core.Path.{sym, subst, _∙_}
+use mathlib.Core.Path.{refl, sym, subst, _∙_}
 use denote.Ref.{now}
 use borrow.Author.Needs.{needs}
-use Rattle.text.specs.Formulas.{Asked, AndsRead, OrsRead, Ends, bytesLeft, andSign, orSign}
+use Rattle.text.specs.Formulas.{Asked, AndsRead, OrsTurn, bytesLeft, andSign, orSign}
 use Rattle.text.specs.laws.Walks.{stands}
-use Rattle.text.specs.laws.Formulas.{gated-ends, ands-first, ors-first, goes-ends, sign-stands, operand-asked, less-left, ands-more, ors-more, inner-asked, not-read, bracket-read, too-deep}
+use Rattle.text.specs.laws.Formulas.{ands-first, goes-ends, sign-stands, operand-asked, less-left, ands-more, turn-begins, turn-read, turn-ends, turn-next, turn-less, inner-asked, not-read, bracket-read, too-deep}
 use borrow.Fn.Kinds.{In}
 use borrow.Fn.PlainCycle.{Measures, is, falls, and}
 use Rattle.text.proofs.formula.and_level.Reads as and-level
@@ -23,6 +25,7 @@ use Rattle.text.proofs.formula.atom.Reads as atom-reads
 use Rattle.text.proofs.formula.closed.Reads as closed-reads
 use Rattle.text.proofs.formula.goes_on.Reads as goes-on-reads
 use Rattle.text.proofs.formula.operand_at.Reads as operand-at-reads
+use Rattle.text.proofs.formula.or_gate.Reads as or-gate-reads
 use Rattle.text.proofs.formula.same.Reads as same-reads
 use Rattle.text.proofs.formula.stuck.Reads as stuck-reads
 use Rattle.text.proofs.formula.with_gate.Reads as with-gate-reads
@@ -608,155 +611,138 @@ factor-returns-5 : (t : ℕ) → factor-lts.Need-returns-5 (
 factor-returns-5 t c = c .atom .ensures _ _ _ _
 
 abbrev or-level-Inv-loop : or-level-lts.InvT-loop
-or-level-Inv-loop s at depth c gates known kind₀ left₀ right₀ p₀ kind left right p =
-    Ends s p andSign × ((k l r : List ℕ) → OrsRead s depth (c .switches) (c .faults) gates known at p₀ k l r kind₀ left₀ right₀ → OrsRead s depth (c .switches) (c .faults) gates known at p k l r kind left right)
+or-level-Inv-loop s at depth c gates known kind₀ left₀ right₀ first₀ from₀ p₀ kind left right first from p =
+    OrsTurn s depth (c .switches) (c .faults) gates known at first from p kind₀ left₀ right₀ kind left right
 
 abbrev or-level-μ-loop : or-level-lts.MeasureT-loop
-or-level-μ-loop s at depth c gates known kind₀ left₀ right₀ p₀ kind left right p = bytesLeft s p
-
-or-level-and-level-requires : (t : ℕ) → or-level-lts.Need-and-level-requires (
-  and-level-below t,
-  and-level.Post,
-  goes-on-reads.Asked,
-  goes-on-reads.Learnt,
-  operand-at-reads.Asked,
-  operand-at-reads.Learnt,
-  with-gate-reads.Asked,
-  with-gate-reads.Learnt,
-  same-reads.Asked,
-  same-reads.Learnt,
-) (or-level-at t) or-level.Post or-level-Inv-loop or-level-μ-loop
-or-level-and-level-requires t c κs = (omega arith, c .before .before .before .before .pre .1)
+or-level-μ-loop s at depth c gates known kind₀ left₀ right₀ first₀ from₀ p₀ kind left right first from p = length s - from
 
 or-level-loop-holds : (t : ℕ) → or-level-lts.Need-loop-holds (
   and-level-below t,
   and-level.Post,
+  or-gate-reads.Asked,
+  or-gate-reads.Learnt,
   goes-on-reads.Asked,
   goes-on-reads.Learnt,
-  operand-at-reads.Asked,
-  operand-at-reads.Learnt,
-  with-gate-reads.Asked,
-  with-gate-reads.Learnt,
   same-reads.Asked,
   same-reads.Learnt,
+  operand-at-reads.Asked,
+  operand-at-reads.Learnt,
 ) (or-level-at t) or-level.Post or-level-Inv-loop or-level-μ-loop
-or-level-loop-holds t c = (c .and-level .ensures .1, λ k l r h. h)
+or-level-loop-holds t c = turn-begins _ _ _ _ _ _ _ _ _ _ _ (c .before .pre .1) refl refl
+
+or-level-and-level-requires : (t : ℕ) → or-level-lts.Need-and-level-requires (
+  and-level-below t,
+  and-level.Post,
+  or-gate-reads.Asked,
+  or-gate-reads.Learnt,
+  goes-on-reads.Asked,
+  goes-on-reads.Learnt,
+  same-reads.Asked,
+  same-reads.Learnt,
+  operand-at-reads.Asked,
+  operand-at-reads.Learnt,
+) (or-level-at t) or-level.Post or-level-Inv-loop or-level-μ-loop
+or-level-and-level-requires t c κs = (omega arith, c .before .before .before .loop .inv .asked)
+
+or-level-or-gate-requires : (t : ℕ) → or-level-lts.Need-or-gate-requires (
+  and-level-below t,
+  and-level.Post,
+  or-gate-reads.Asked,
+  or-gate-reads.Learnt,
+  goes-on-reads.Asked,
+  goes-on-reads.Learnt,
+  same-reads.Asked,
+  same-reads.Learnt,
+  operand-at-reads.Asked,
+  operand-at-reads.Learnt,
+) (or-level-at t) or-level.Post or-level-Inv-loop or-level-μ-loop
+or-level-or-gate-requires t c κs = (c .before .before .before .before .before .before .before .before .before .pre .1 .switches, c .before .before .before .before .before .before .before .before .before .pre .1 .faults, c .before .before .before .and-level .ensures .0 .few)
 
 or-level-goes-on-requires : (t : ℕ) → or-level-lts.Need-goes-on-requires (
   and-level-below t,
   and-level.Post,
+  or-gate-reads.Asked,
+  or-gate-reads.Learnt,
   goes-on-reads.Asked,
   goes-on-reads.Learnt,
-  operand-at-reads.Asked,
-  operand-at-reads.Learnt,
-  with-gate-reads.Asked,
-  with-gate-reads.Learnt,
   same-reads.Asked,
   same-reads.Learnt,
+  operand-at-reads.Asked,
+  operand-at-reads.Learnt,
 ) (or-level-at t) or-level.Post or-level-Inv-loop or-level-μ-loop
 or-level-goes-on-requires t c κs = search needs
-
-or-level-operand-at-requires : (t : ℕ) → or-level-lts.Need-operand-at-requires (
-  and-level-below t,
-  and-level.Post,
-  goes-on-reads.Asked,
-  goes-on-reads.Learnt,
-  operand-at-reads.Asked,
-  operand-at-reads.Learnt,
-  with-gate-reads.Asked,
-  with-gate-reads.Learnt,
-  same-reads.Asked,
-  same-reads.Learnt,
-) (or-level-at t) or-level.Post or-level-Inv-loop or-level-μ-loop
-or-level-operand-at-requires t c κs = sign-stands _ _ orSign (omega arith) (sym (c .before .goes-on .ensures) ∙ c .if1 .taken)
-
-or-level-and-level-requires-2 : (t : ℕ) → or-level-lts.Need-and-level-requires-2 (
-  and-level-below t,
-  and-level.Post,
-  goes-on-reads.Asked,
-  goes-on-reads.Learnt,
-  operand-at-reads.Asked,
-  operand-at-reads.Learnt,
-  with-gate-reads.Asked,
-  with-gate-reads.Learnt,
-  same-reads.Asked,
-  same-reads.Learnt,
-) (or-level-at t) or-level.Post or-level-Inv-loop or-level-μ-loop
-or-level-and-level-requires-2 t c κs =
-    let h = c .before .before .before .before .before .before .loop .inv .1 _ _ _ (ors-first _ _ _ _ _ _ _ _ _ _ _ _ _ _ (c .before .before .before .before .before .before .before .and-level .ensures .0)) in
-    (omega arith, subst (λ n. Asked (now (c .before .before .before .before .before .before .before .before .before .before .before .before .args .s)) (c .before .before .before .before .before .before .before .before .before .before .before .before .args .c .switches) (c .before .before .before .before .before .before .before .before .before .before .before .before .args .c .faults) (c .before .before .before .before .before .before .loop .p .gates) n) (sym (c .before .before .before .operand-at .ensures)) (operand-asked _ _ orSign (omega arith) (sym (c .before .before .before .before .before .goes-on .ensures) ∙ c .before .before .before .before .if1 .taken) _ _ _ _ _ _ _ _ _ _ _ _ _ (c .before .before .before .before .before .before .before .before .before .before .before .before .pre .1) h))
-
-or-level-with-gate-requires : (t : ℕ) → or-level-lts.Need-with-gate-requires (
-  and-level-below t,
-  and-level.Post,
-  goes-on-reads.Asked,
-  goes-on-reads.Learnt,
-  operand-at-reads.Asked,
-  operand-at-reads.Learnt,
-  with-gate-reads.Asked,
-  with-gate-reads.Learnt,
-  same-reads.Asked,
-  same-reads.Learnt,
-) (or-level-at t) or-level.Post or-level-Inv-loop or-level-μ-loop
-or-level-with-gate-requires t c κs = (c .before .before .before .before .before .before .before .before .before .before .before .before .before .before .before .before .pre .1 .switches, c .before .before .before .before .before .before .before .before .before .before .before .before .before .before .before .before .pre .1 .faults, c .before .before .before .and-level2 .ensures .0 .few)
-
-or-level-loop-less : (t : ℕ) → or-level-lts.Need-loop-less (
-  and-level-below t,
-  and-level.Post,
-  goes-on-reads.Asked,
-  goes-on-reads.Learnt,
-  operand-at-reads.Asked,
-  operand-at-reads.Learnt,
-  with-gate-reads.Asked,
-  with-gate-reads.Learnt,
-  same-reads.Asked,
-  same-reads.Learnt,
-) (or-level-at t) or-level.Post or-level-Inv-loop or-level-μ-loop
-or-level-loop-less t c = less-left _ _ orSign (omega arith) (sym (c .before .before .before .before .before .before .before .before .before .before .goes-on .ensures) ∙ c .before .before .before .before .before .before .before .before .before .if1 .taken) _ _ _ _ _ _ _ _ _ _ _ _ _ _ _ _ _ _ (rw (c .before .before .before .before .before .before .before .before .operand-at .ensures) at (c .before .before .before .before .and-level2 .ensures .0)) (c .with-gate .ensures)
-
-or-level-loop-again : (t : ℕ) → or-level-lts.Need-loop-again (
-  and-level-below t,
-  and-level.Post,
-  goes-on-reads.Asked,
-  goes-on-reads.Learnt,
-  operand-at-reads.Asked,
-  operand-at-reads.Learnt,
-  with-gate-reads.Asked,
-  with-gate-reads.Learnt,
-  same-reads.Asked,
-  same-reads.Learnt,
-) (or-level-at t) or-level.Post or-level-Inv-loop or-level-μ-loop
-or-level-loop-again t c = (gated-ends _ _ _ _ _ _ _ _ _ _ _ _ _ _ _ (c .with-gate .ensures) (c .before .before .before .before .and-level2 .ensures .1), λ k l r h. ors-more _ _ _ _ _ _ _ (c .before .before .before .before .before .before .before .before .before .before .before .before .before .before .before .before .before .pre .1) _ _ _ k l r _ _ _ _ _ _ _ _ _ (c .before .before .before .before .before .before .before .before .before .before .before .loop .inv .1 k l r h) (sym (c .before .before .before .before .before .before .before .before .before .before .goes-on .ensures) ∙ c .before .before .before .before .before .before .before .before .before .if1 .taken) (rw (c .before .before .before .before .before .before .before .before .operand-at .ensures) at (c .before .before .before .before .and-level2 .ensures .0)) (c .with-gate .ensures))
 
 or-level-same-requires : (t : ℕ) → or-level-lts.Need-same-requires (
   and-level-below t,
   and-level.Post,
+  or-gate-reads.Asked,
+  or-gate-reads.Learnt,
   goes-on-reads.Asked,
   goes-on-reads.Learnt,
-  operand-at-reads.Asked,
-  operand-at-reads.Learnt,
-  with-gate-reads.Asked,
-  with-gate-reads.Learnt,
   same-reads.Asked,
   same-reads.Learnt,
+  operand-at-reads.Asked,
+  operand-at-reads.Learnt,
 ) (or-level-at t) or-level.Post or-level-Inv-loop or-level-μ-loop
 or-level-same-requires t c κs = search needs
 
 or-level-returns : (t : ℕ) → or-level-lts.Need-returns (
   and-level-below t,
   and-level.Post,
+  or-gate-reads.Asked,
+  or-gate-reads.Learnt,
   goes-on-reads.Asked,
   goes-on-reads.Learnt,
-  operand-at-reads.Asked,
-  operand-at-reads.Learnt,
-  with-gate-reads.Asked,
-  with-gate-reads.Learnt,
   same-reads.Asked,
   same-reads.Learnt,
+  operand-at-reads.Asked,
+  operand-at-reads.Learnt,
 ) (or-level-at t) or-level.Post or-level-Inv-loop or-level-μ-loop
 or-level-returns t c =
-    let h = c .before .before .before .loop .inv .1 _ _ _ (ors-first _ _ _ _ _ _ _ _ _ _ _ _ _ _ (c .before .before .before .before .and-level .ensures .0)) in
-    rw (c .same .ensures) (h, c .before .before .before .loop .inv .0, goes-ends _ _ orSign (sym (c .before .before .goes-on .ensures) ∙ c .before .if1 .left))
+    rw (c .same .ensures) (turn-read _ _ _ _ _ _ _ (c .before .before .before .before .before .before .before .before .before .before .before .before .before .pre .1) _ _ _ _ _ _ _ _ _ _ _ _ _ _ _ _ _ (c .before .before .before .before .before .before .before .before .before .before .before .loop .inv) (c .before .before .before .before .before .before .before .and-level .ensures .0) (c .before .before .before .or-gate .ensures), turn-ends _ _ _ _ _ _ _ (c .before .before .before .before .before .before .before .before .before .before .before .before .before .pre .1) _ _ _ _ _ _ _ _ _ _ _ _ _ _ _ _ _ (c .before .before .before .before .before .before .before .before .before .before .before .loop .inv) (c .before .before .before .before .before .before .before .and-level .ensures .0) (c .before .before .before .or-gate .ensures) andSign (c .before .before .before .before .before .before .before .and-level .ensures .1), goes-ends _ _ orSign (sym (c .before .before .goes-on .ensures) ∙ not-true _ (c .before .if1 .taken)))
+
+or-level-operand-at-requires : (t : ℕ) → or-level-lts.Need-operand-at-requires (
+  and-level-below t,
+  and-level.Post,
+  or-gate-reads.Asked,
+  or-gate-reads.Learnt,
+  goes-on-reads.Asked,
+  goes-on-reads.Learnt,
+  same-reads.Asked,
+  same-reads.Learnt,
+  operand-at-reads.Asked,
+  operand-at-reads.Learnt,
+) (or-level-at t) or-level.Post or-level-Inv-loop or-level-μ-loop
+or-level-operand-at-requires t c κs = sign-stands _ _ orSign (omega arith) (sym (c .before .goes-on .ensures) ∙ not-false _ (c .if1 .left))
+
+or-level-loop-less : (t : ℕ) → or-level-lts.Need-loop-less (
+  and-level-below t,
+  and-level.Post,
+  or-gate-reads.Asked,
+  or-gate-reads.Learnt,
+  goes-on-reads.Asked,
+  goes-on-reads.Learnt,
+  same-reads.Asked,
+  same-reads.Learnt,
+  operand-at-reads.Asked,
+  operand-at-reads.Learnt,
+) (or-level-at t) or-level.Post or-level-Inv-loop or-level-μ-loop
+or-level-loop-less t c = rw (c .operand-at .ensures) (turn-less _ _ _ _ _ _ _ (c .before .before .before .before .before .before .before .before .before .before .before .before .before .pre .1) _ _ _ _ _ _ _ _ _ _ _ _ _ _ _ _ _ (c .before .before .before .before .before .before .before .before .before .before .before .loop .inv) (c .before .before .before .before .before .before .before .and-level .ensures .0) (c .before .before .before .or-gate .ensures) (sym (c .before .before .goes-on .ensures) ∙ not-false _ (c .before .if1 .left)))
+
+or-level-loop-again : (t : ℕ) → or-level-lts.Need-loop-again (
+  and-level-below t,
+  and-level.Post,
+  or-gate-reads.Asked,
+  or-gate-reads.Learnt,
+  goes-on-reads.Asked,
+  goes-on-reads.Learnt,
+  same-reads.Asked,
+  same-reads.Learnt,
+  operand-at-reads.Asked,
+  operand-at-reads.Learnt,
+) (or-level-at t) or-level.Post or-level-Inv-loop or-level-μ-loop
+or-level-loop-again t c = rw (c .operand-at .ensures) (turn-next _ _ _ _ _ _ _ (c .before .before .before .before .before .before .before .before .before .before .before .before .before .pre .1) _ _ _ _ _ _ _ _ _ _ _ _ _ _ _ _ _ (c .before .before .before .before .before .before .before .before .before .before .before .loop .inv) (c .before .before .before .before .before .before .before .and-level .ensures .0) (c .before .before .before .or-gate .ensures) (sym (c .before .before .goes-on .ensures) ∙ not-false _ (c .before .if1 .left)))
 
 pub +and-level+factor+or-level-spec : {M : Type 1} → statement M
 +and-level+factor+or-level-spec = close μ-and-level μ-factor μ-or-level (λ t. and-level-lts.spec (
@@ -827,26 +813,25 @@ pub +and-level+factor+or-level-spec : {M : Type 1} → statement M
     λ t. or-level-lts.spec (
       and-level-below t,
       and-level.Post,
+      or-gate-reads.Asked,
+      or-gate-reads.Learnt,
       goes-on-reads.Asked,
       goes-on-reads.Learnt,
-      operand-at-reads.Asked,
-      operand-at-reads.Learnt,
-      with-gate-reads.Asked,
-      with-gate-reads.Learnt,
       same-reads.Asked,
       same-reads.Learnt,
+      operand-at-reads.Asked,
+      operand-at-reads.Learnt,
     )
     (or-level-at t)
     or-level.Post
     or-level-Inv-loop
     or-level-μ-loop
-    (or-level-and-level-requires t)
     (or-level-loop-holds t)
+    (or-level-and-level-requires t)
+    (or-level-or-gate-requires t)
     (or-level-goes-on-requires t)
-    (or-level-operand-at-requires t)
-    (or-level-and-level-requires-2 t)
-    (or-level-with-gate-requires t)
-    (or-level-loop-less t)
-    (or-level-loop-again t)
     (or-level-same-requires t)
     (or-level-returns t)
+    (or-level-operand-at-requires t)
+    (or-level-loop-less t)
+    (or-level-loop-again t)

@@ -1,0 +1,20 @@
+use mathlib.Core.Path.{refl}
+use Rattle.scope.specs.laws.Tests.{clash}
+use borrow.Author.Needs.{needs}
+use Rattle.text.proofs.formula.or_gate.Statement.{statement}
+use Rattle.text.proofs.formula.or_gate.Tie as tie
+
+same-requires : tie.Need-same-requires
+same-requires c κs = search needs
+
+returns : tie.Need-returns
+returns c = record { alone = λ t. (c .same .ensures, refl, refl, refl); joined = λ t. clash (c .before .if1 .taken) t }
+
+with-gate-requires : tie.Need-with-gate-requires
+with-gate-requires c κs = search needs
+
+returns-2 : tie.Need-returns-2
+returns-2 c = record { alone = λ t. clash t (c .before .before .before .before .if1 .left); joined = λ t. c .with-gate .ensures }
+
+pub or-gate-spec : {M : Type 1} → statement M
+or-gate-spec = tie.close (tie.spec same-requires returns with-gate-requires returns-2)
