@@ -63,689 +63,9 @@ abbrev or-level-below : ℕ → In 4 or-level-kinds.ps
 or-level-below t =
     and 4 or-level-kinds.ps (falls 4 or-level-kinds.ps _<_ μ-or-level t) or-level.Pre
 
-abbrev and-level-Inv-loop : and-level-lts.InvT-loop
-and-level-Inv-loop s at depth c gates known kind₀ left₀ right₀ p₀ kind left right p =
-    (k l r : List ℕ) → AndsRead s depth (c .switches) (c .faults) gates known at p₀ k l r kind₀ left₀ right₀ → AndsRead s depth (c .switches) (c .faults) gates known at p k l r kind left right
-
-abbrev and-level-μ-loop : and-level-lts.MeasureT-loop
-and-level-μ-loop s at depth c gates known kind₀ left₀ right₀ p₀ kind left right p = bytesLeft s p
-
-and-level-factor-requires : (t : ℕ) → and-level-lts.Need-factor-requires (
-  factor-below t,
-  factor.Post,
-  goes-on-reads.Asked,
-  goes-on-reads.Learnt,
-  operand-at-reads.Asked,
-  operand-at-reads.Learnt,
-  with-gate-reads.Asked,
-  with-gate-reads.Learnt,
-  same-reads.Asked,
-  same-reads.Learnt,
-) (and-level-at t) and-level.Post and-level-Inv-loop and-level-μ-loop
-and-level-factor-requires t c κs = (omega arith, c .before .before .before .before .pre .1)
-
-and-level-loop-holds : (t : ℕ) → and-level-lts.Need-loop-holds (
-  factor-below t,
-  factor.Post,
-  goes-on-reads.Asked,
-  goes-on-reads.Learnt,
-  operand-at-reads.Asked,
-  operand-at-reads.Learnt,
-  with-gate-reads.Asked,
-  with-gate-reads.Learnt,
-  same-reads.Asked,
-  same-reads.Learnt,
-) (and-level-at t) and-level.Post and-level-Inv-loop and-level-μ-loop
-and-level-loop-holds t c = λ k l r h. h
-
-and-level-goes-on-requires : (t : ℕ) → and-level-lts.Need-goes-on-requires (
-  factor-below t,
-  factor.Post,
-  goes-on-reads.Asked,
-  goes-on-reads.Learnt,
-  operand-at-reads.Asked,
-  operand-at-reads.Learnt,
-  with-gate-reads.Asked,
-  with-gate-reads.Learnt,
-  same-reads.Asked,
-  same-reads.Learnt,
-) (and-level-at t) and-level.Post and-level-Inv-loop and-level-μ-loop
-and-level-goes-on-requires t c κs = search needs
-
-and-level-operand-at-requires : (t : ℕ) → and-level-lts.Need-operand-at-requires (
-  factor-below t,
-  factor.Post,
-  goes-on-reads.Asked,
-  goes-on-reads.Learnt,
-  operand-at-reads.Asked,
-  operand-at-reads.Learnt,
-  with-gate-reads.Asked,
-  with-gate-reads.Learnt,
-  same-reads.Asked,
-  same-reads.Learnt,
-) (and-level-at t) and-level.Post and-level-Inv-loop and-level-μ-loop
-and-level-operand-at-requires t c κs = sign-stands _ _ andSign (omega arith) (sym (c .before .goes-on .ensures) ∙ c .if1 .taken)
-
-and-level-factor-requires-2 : (t : ℕ) → and-level-lts.Need-factor-requires-2 (
-  factor-below t,
-  factor.Post,
-  goes-on-reads.Asked,
-  goes-on-reads.Learnt,
-  operand-at-reads.Asked,
-  operand-at-reads.Learnt,
-  with-gate-reads.Asked,
-  with-gate-reads.Learnt,
-  same-reads.Asked,
-  same-reads.Learnt,
-) (and-level-at t) and-level.Post and-level-Inv-loop and-level-μ-loop
-and-level-factor-requires-2 t c κs =
-    let h = c .before .before .before .before .before .before .loop .inv _ _ _ (ands-first _ _ _ _ _ _ _ _ _ _ _ _ _ _ (c .before .before .before .before .before .before .before .factor .ensures)) in
-    (omega arith, subst (λ n. Asked (now (c .before .before .before .before .before .before .before .before .before .before .before .before .args .s)) (c .before .before .before .before .before .before .before .before .before .before .before .before .args .c .switches) (c .before .before .before .before .before .before .before .before .before .before .before .before .args .c .faults) (c .before .before .before .before .before .before .loop .p .gates) n) (sym (c .before .before .before .operand-at .ensures)) (operand-asked _ _ andSign (omega arith) (sym (c .before .before .before .before .before .goes-on .ensures) ∙ c .before .before .before .before .if1 .taken) _ _ _ _ _ _ _ _ _ _ _ _ _ (c .before .before .before .before .before .before .before .before .before .before .before .before .pre .1) h))
-
-and-level-with-gate-requires : (t : ℕ) → and-level-lts.Need-with-gate-requires (
-  factor-below t,
-  factor.Post,
-  goes-on-reads.Asked,
-  goes-on-reads.Learnt,
-  operand-at-reads.Asked,
-  operand-at-reads.Learnt,
-  with-gate-reads.Asked,
-  with-gate-reads.Learnt,
-  same-reads.Asked,
-  same-reads.Learnt,
-) (and-level-at t) and-level.Post and-level-Inv-loop and-level-μ-loop
-and-level-with-gate-requires t c κs = (c .before .before .before .before .before .before .before .before .before .before .before .before .before .before .before .before .pre .1 .switches, c .before .before .before .before .before .before .before .before .before .before .before .before .before .before .before .before .pre .1 .faults, c .before .before .before .factor2 .ensures .few)
-
-and-level-loop-less : (t : ℕ) → and-level-lts.Need-loop-less (
-  factor-below t,
-  factor.Post,
-  goes-on-reads.Asked,
-  goes-on-reads.Learnt,
-  operand-at-reads.Asked,
-  operand-at-reads.Learnt,
-  with-gate-reads.Asked,
-  with-gate-reads.Learnt,
-  same-reads.Asked,
-  same-reads.Learnt,
-) (and-level-at t) and-level.Post and-level-Inv-loop and-level-μ-loop
-and-level-loop-less t c = less-left _ _ andSign (omega arith) (sym (c .before .before .before .before .before .before .before .before .before .before .goes-on .ensures) ∙ c .before .before .before .before .before .before .before .before .before .if1 .taken) _ _ _ _ _ _ _ _ _ _ _ _ _ _ _ _ _ _ (rw (c .before .before .before .before .before .before .before .before .operand-at .ensures) at (c .before .before .before .before .factor2 .ensures)) (c .with-gate .ensures)
-
-and-level-loop-again : (t : ℕ) → and-level-lts.Need-loop-again (
-  factor-below t,
-  factor.Post,
-  goes-on-reads.Asked,
-  goes-on-reads.Learnt,
-  operand-at-reads.Asked,
-  operand-at-reads.Learnt,
-  with-gate-reads.Asked,
-  with-gate-reads.Learnt,
-  same-reads.Asked,
-  same-reads.Learnt,
-) (and-level-at t) and-level.Post and-level-Inv-loop and-level-μ-loop
-and-level-loop-again t c = λ k l r h. ands-more _ _ _ _ _ _ _ (c .before .before .before .before .before .before .before .before .before .before .before .before .before .before .before .before .before .pre .1) _ _ _ k l r _ _ _ _ _ _ _ _ _ (c .before .before .before .before .before .before .before .before .before .before .before .loop .inv k l r h) (sym (c .before .before .before .before .before .before .before .before .before .before .goes-on .ensures) ∙ c .before .before .before .before .before .before .before .before .before .if1 .taken) (rw (c .before .before .before .before .before .before .before .before .operand-at .ensures) at (c .before .before .before .before .factor2 .ensures)) (c .with-gate .ensures)
-
-and-level-same-requires : (t : ℕ) → and-level-lts.Need-same-requires (
-  factor-below t,
-  factor.Post,
-  goes-on-reads.Asked,
-  goes-on-reads.Learnt,
-  operand-at-reads.Asked,
-  operand-at-reads.Learnt,
-  with-gate-reads.Asked,
-  with-gate-reads.Learnt,
-  same-reads.Asked,
-  same-reads.Learnt,
-) (and-level-at t) and-level.Post and-level-Inv-loop and-level-μ-loop
-and-level-same-requires t c κs = search needs
-
-and-level-returns : (t : ℕ) → and-level-lts.Need-returns (
-  factor-below t,
-  factor.Post,
-  goes-on-reads.Asked,
-  goes-on-reads.Learnt,
-  operand-at-reads.Asked,
-  operand-at-reads.Learnt,
-  with-gate-reads.Asked,
-  with-gate-reads.Learnt,
-  same-reads.Asked,
-  same-reads.Learnt,
-) (and-level-at t) and-level.Post and-level-Inv-loop and-level-μ-loop
-and-level-returns t c =
-    let h = c .before .before .before .loop .inv _ _ _ (ands-first _ _ _ _ _ _ _ _ _ _ _ _ _ _ (c .before .before .before .before .factor .ensures)) in
-    rw (c .same .ensures) (h, goes-ends _ _ andSign (sym (c .before .before .goes-on .ensures) ∙ c .before .if1 .left))
-
-factor-look-requires : (t : ℕ) → factor-lts.Need-look-requires (
-  look-reads.Asked,
-  look-reads.Learnt,
-  stuck-reads.Asked,
-  stuck-reads.Learnt,
-  skip-reads.Asked,
-  skip-reads.Learnt,
-  factor-below t,
-  factor.Post,
-  with-gate-reads.Asked,
-  with-gate-reads.Learnt,
-  or-level-below t,
-  or-level.Post,
-  closed-reads.Asked,
-  closed-reads.Learnt,
-  atom-reads.Asked,
-  atom-reads.Learnt,
-) (factor-at t) factor.Post
-factor-look-requires t c κs = search needs
-
-factor-stuck-requires : (t : ℕ) → factor-lts.Need-stuck-requires (
-  look-reads.Asked,
-  look-reads.Learnt,
-  stuck-reads.Asked,
-  stuck-reads.Learnt,
-  skip-reads.Asked,
-  skip-reads.Learnt,
-  factor-below t,
-  factor.Post,
-  with-gate-reads.Asked,
-  with-gate-reads.Learnt,
-  or-level-below t,
-  or-level.Post,
-  closed-reads.Asked,
-  closed-reads.Learnt,
-  atom-reads.Asked,
-  atom-reads.Learnt,
-) (factor-at t) factor.Post
-factor-stuck-requires t c κs = search needs
-
-factor-returns : (t : ℕ) → factor-lts.Need-returns (
-  look-reads.Asked,
-  look-reads.Learnt,
-  stuck-reads.Asked,
-  stuck-reads.Learnt,
-  skip-reads.Asked,
-  skip-reads.Learnt,
-  factor-below t,
-  factor.Post,
-  with-gate-reads.Asked,
-  with-gate-reads.Learnt,
-  or-level-below t,
-  or-level.Post,
-  closed-reads.Asked,
-  closed-reads.Learnt,
-  atom-reads.Asked,
-  atom-reads.Learnt,
-) (factor-at t) factor.Post
-factor-returns t c =
-    let a = c .before .before .before .before .before .args in
-    too-deep _ _ _ _ _ _ _ _ _ _ _ (c .before .if2 .taken) (c .before .before .before .before .before .pre .1 .within) (inl (sym (c .before .before .before .look .ensures) ∙ c .before .before .if1 .taken)) (c .stuck .ensures)
-
-factor-add-skip : (t : ℕ) → factor-lts.Need-add-skip (
-  look-reads.Asked,
-  look-reads.Learnt,
-  stuck-reads.Asked,
-  stuck-reads.Learnt,
-  skip-reads.Asked,
-  skip-reads.Learnt,
-  factor-below t,
-  factor.Post,
-  with-gate-reads.Asked,
-  with-gate-reads.Learnt,
-  or-level-below t,
-  or-level.Post,
-  closed-reads.Asked,
-  closed-reads.Learnt,
-  atom-reads.Asked,
-  atom-reads.Learnt,
-) (factor-at t) factor.Post
-factor-add-skip t c =
-    let e = c .before .before .look .ensures in
-    omega (arith, stands (now (c .before .before .before .before .args .s)) (c .before .before .before .before .args .at) (omega arith))
-
-factor-skip-requires : (t : ℕ) → factor-lts.Need-skip-requires (
-  look-reads.Asked,
-  look-reads.Learnt,
-  stuck-reads.Asked,
-  stuck-reads.Learnt,
-  skip-reads.Asked,
-  skip-reads.Learnt,
-  factor-below t,
-  factor.Post,
-  with-gate-reads.Asked,
-  with-gate-reads.Learnt,
-  or-level-below t,
-  or-level.Post,
-  closed-reads.Asked,
-  closed-reads.Learnt,
-  atom-reads.Asked,
-  atom-reads.Learnt,
-) (factor-at t) factor.Post
-factor-skip-requires t c κs = search needs
-
-factor-sub-factor : (t : ℕ) → factor-lts.Need-sub-factor (
-  look-reads.Asked,
-  look-reads.Learnt,
-  stuck-reads.Asked,
-  stuck-reads.Learnt,
-  skip-reads.Asked,
-  skip-reads.Learnt,
-  factor-below t,
-  factor.Post,
-  with-gate-reads.Asked,
-  with-gate-reads.Learnt,
-  or-level-below t,
-  or-level.Post,
-  closed-reads.Asked,
-  closed-reads.Learnt,
-  atom-reads.Asked,
-  atom-reads.Learnt,
-) (factor-at t) factor.Post
-factor-sub-factor t c = search needs
-
-factor-factor-requires : (t : ℕ) → factor-lts.Need-factor-requires (
-  look-reads.Asked,
-  look-reads.Learnt,
-  stuck-reads.Asked,
-  stuck-reads.Learnt,
-  skip-reads.Asked,
-  skip-reads.Learnt,
-  factor-below t,
-  factor.Post,
-  with-gate-reads.Asked,
-  with-gate-reads.Learnt,
-  or-level-below t,
-  or-level.Post,
-  closed-reads.Asked,
-  closed-reads.Learnt,
-  atom-reads.Asked,
-  atom-reads.Learnt,
-) (factor-at t) factor.Post
-factor-factor-requires t c κs =
-    let a = c .before .before .before .before .before .before .before .before .args in
-    (omega arith, subst (λ n. Asked (now (a .s)) (a .c .switches) (a .c .faults) (a .gates) n) (sym (c .before .before .before .skip .ensures)) (inner-asked _ _ _ _ _ (c .before .before .before .before .before .before .before .before .pre .1) (omega (arith, c .before .before .before .before .before .before .look .ensures))))
-
-factor-with-gate-requires : (t : ℕ) → factor-lts.Need-with-gate-requires (
-  look-reads.Asked,
-  look-reads.Learnt,
-  stuck-reads.Asked,
-  stuck-reads.Learnt,
-  skip-reads.Asked,
-  skip-reads.Learnt,
-  factor-below t,
-  factor.Post,
-  with-gate-reads.Asked,
-  with-gate-reads.Learnt,
-  or-level-below t,
-  or-level.Post,
-  closed-reads.Asked,
-  closed-reads.Learnt,
-  atom-reads.Asked,
-  atom-reads.Learnt,
-) (factor-at t) factor.Post
-factor-with-gate-requires t c κs = (c .before .before .before .before .before .before .before .before .before .before .before .before .pre .1 .switches, c .before .before .before .before .before .before .before .before .before .before .before .before .pre .1 .faults, c .before .before .before .factor .ensures .few)
-
-factor-returns-2 : (t : ℕ) → factor-lts.Need-returns-2 (
-  look-reads.Asked,
-  look-reads.Learnt,
-  stuck-reads.Asked,
-  stuck-reads.Learnt,
-  skip-reads.Asked,
-  skip-reads.Learnt,
-  factor-below t,
-  factor.Post,
-  with-gate-reads.Asked,
-  with-gate-reads.Learnt,
-  or-level-below t,
-  or-level.Post,
-  closed-reads.Asked,
-  closed-reads.Learnt,
-  atom-reads.Asked,
-  atom-reads.Learnt,
-) (factor-at t) factor.Post
-factor-returns-2 t c =
-    not-read _ _ _ _ _ _ _ (c .before .before .before .before .before .before .before .before .before .before .before .before .before .pre .1) _ _ _ _ _ _ _ _ _ _ _ (sym (c .before .before .before .before .before .before .before .before .before .before .before .look .ensures) ∙ c .before .before .before .before .before .before .before .before .before .before .if1 .taken) (c .before .before .before .before .before .before .before .before .before .if2 .left) (rw (c .before .before .before .before .before .before .before .before .skip .ensures) at (c .before .before .before .before .factor .ensures)) (c .with-gate .ensures)
-
-factor-stuck-requires-2 : (t : ℕ) → factor-lts.Need-stuck-requires-2 (
-  look-reads.Asked,
-  look-reads.Learnt,
-  stuck-reads.Asked,
-  stuck-reads.Learnt,
-  skip-reads.Asked,
-  skip-reads.Learnt,
-  factor-below t,
-  factor.Post,
-  with-gate-reads.Asked,
-  with-gate-reads.Learnt,
-  or-level-below t,
-  or-level.Post,
-  closed-reads.Asked,
-  closed-reads.Learnt,
-  atom-reads.Asked,
-  atom-reads.Learnt,
-) (factor-at t) factor.Post
-factor-stuck-requires-2 t c κs = search needs
-
-factor-returns-3 : (t : ℕ) → factor-lts.Need-returns-3 (
-  look-reads.Asked,
-  look-reads.Learnt,
-  stuck-reads.Asked,
-  stuck-reads.Learnt,
-  skip-reads.Asked,
-  skip-reads.Learnt,
-  factor-below t,
-  factor.Post,
-  with-gate-reads.Asked,
-  with-gate-reads.Learnt,
-  or-level-below t,
-  or-level.Post,
-  closed-reads.Asked,
-  closed-reads.Learnt,
-  atom-reads.Asked,
-  atom-reads.Learnt,
-) (factor-at t) factor.Post
-factor-returns-3 t c =
-    let a = c .before .before .before .before .before .before .args in
-    too-deep _ _ _ _ _ _ _ _ _ _ _ (c .before .if4 .taken) (c .before .before .before .before .before .before .pre .1 .within) (inr (sym (c .before .before .before .before .look .ensures) ∙ c .before .before .if3 .taken)) (c .stuck2 .ensures)
-
-factor-add-skip-2 : (t : ℕ) → factor-lts.Need-add-skip-2 (
-  look-reads.Asked,
-  look-reads.Learnt,
-  stuck-reads.Asked,
-  stuck-reads.Learnt,
-  skip-reads.Asked,
-  skip-reads.Learnt,
-  factor-below t,
-  factor.Post,
-  with-gate-reads.Asked,
-  with-gate-reads.Learnt,
-  or-level-below t,
-  or-level.Post,
-  closed-reads.Asked,
-  closed-reads.Learnt,
-  atom-reads.Asked,
-  atom-reads.Learnt,
-) (factor-at t) factor.Post
-factor-add-skip-2 t c =
-    let e = c .before .before .before .look .ensures in
-    omega (arith, stands (now (c .before .before .before .before .before .args .s)) (c .before .before .before .before .before .args .at) (omega arith))
-
-factor-skip-requires-2 : (t : ℕ) → factor-lts.Need-skip-requires-2 (
-  look-reads.Asked,
-  look-reads.Learnt,
-  stuck-reads.Asked,
-  stuck-reads.Learnt,
-  skip-reads.Asked,
-  skip-reads.Learnt,
-  factor-below t,
-  factor.Post,
-  with-gate-reads.Asked,
-  with-gate-reads.Learnt,
-  or-level-below t,
-  or-level.Post,
-  closed-reads.Asked,
-  closed-reads.Learnt,
-  atom-reads.Asked,
-  atom-reads.Learnt,
-) (factor-at t) factor.Post
-factor-skip-requires-2 t c κs = search needs
-
-factor-sub-or-level : (t : ℕ) → factor-lts.Need-sub-or-level (
-  look-reads.Asked,
-  look-reads.Learnt,
-  stuck-reads.Asked,
-  stuck-reads.Learnt,
-  skip-reads.Asked,
-  skip-reads.Learnt,
-  factor-below t,
-  factor.Post,
-  with-gate-reads.Asked,
-  with-gate-reads.Learnt,
-  or-level-below t,
-  or-level.Post,
-  closed-reads.Asked,
-  closed-reads.Learnt,
-  atom-reads.Asked,
-  atom-reads.Learnt,
-) (factor-at t) factor.Post
-factor-sub-or-level t c = search needs
-
-factor-or-level-requires : (t : ℕ) → factor-lts.Need-or-level-requires (
-  look-reads.Asked,
-  look-reads.Learnt,
-  stuck-reads.Asked,
-  stuck-reads.Learnt,
-  skip-reads.Asked,
-  skip-reads.Learnt,
-  factor-below t,
-  factor.Post,
-  with-gate-reads.Asked,
-  with-gate-reads.Learnt,
-  or-level-below t,
-  or-level.Post,
-  closed-reads.Asked,
-  closed-reads.Learnt,
-  atom-reads.Asked,
-  atom-reads.Learnt,
-) (factor-at t) factor.Post
-factor-or-level-requires t c κs =
-    let a = c .before .before .before .before .before .before .before .before .before .args in
-    (omega arith, subst (λ n. Asked (now (a .s)) (a .c .switches) (a .c .faults) (a .gates) n) (sym (c .before .before .before .skip2 .ensures)) (inner-asked _ _ _ _ _ (c .before .before .before .before .before .before .before .before .before .pre .1) (omega (arith, c .before .before .before .before .before .before .before .look .ensures))))
-
-factor-closed-requires : (t : ℕ) → factor-lts.Need-closed-requires (
-  look-reads.Asked,
-  look-reads.Learnt,
-  stuck-reads.Asked,
-  stuck-reads.Learnt,
-  skip-reads.Asked,
-  skip-reads.Learnt,
-  factor-below t,
-  factor.Post,
-  with-gate-reads.Asked,
-  with-gate-reads.Learnt,
-  or-level-below t,
-  or-level.Post,
-  closed-reads.Asked,
-  closed-reads.Learnt,
-  atom-reads.Asked,
-  atom-reads.Learnt,
-) (factor-at t) factor.Post
-factor-closed-requires t c κs = search needs
-
-factor-returns-4 : (t : ℕ) → factor-lts.Need-returns-4 (
-  look-reads.Asked,
-  look-reads.Learnt,
-  stuck-reads.Asked,
-  stuck-reads.Learnt,
-  skip-reads.Asked,
-  skip-reads.Learnt,
-  factor-below t,
-  factor.Post,
-  with-gate-reads.Asked,
-  with-gate-reads.Learnt,
-  or-level-below t,
-  or-level.Post,
-  closed-reads.Asked,
-  closed-reads.Learnt,
-  atom-reads.Asked,
-  atom-reads.Learnt,
-) (factor-at t) factor.Post
-factor-returns-4 t c =
-    bracket-read _ _ _ _ _ _ _ (c .before .before .before .before .before .before .before .before .before .before .before .pre .1) _ _ _ _ _ _ _ _ (sym (c .before .before .before .before .before .before .before .before .before .look .ensures) ∙ c .before .before .before .before .before .before .before .if3 .taken) (c .before .before .before .before .before .before .if4 .left) (rw (c .before .before .before .before .before .skip2 .ensures) at (c .before .or-level .ensures .0)) (c .before .or-level .ensures .1) (c .before .or-level .ensures .2) (c .closed .ensures)
-
-factor-atom-requires : (t : ℕ) → factor-lts.Need-atom-requires (
-  look-reads.Asked,
-  look-reads.Learnt,
-  stuck-reads.Asked,
-  stuck-reads.Learnt,
-  skip-reads.Asked,
-  skip-reads.Learnt,
-  factor-below t,
-  factor.Post,
-  with-gate-reads.Asked,
-  with-gate-reads.Learnt,
-  or-level-below t,
-  or-level.Post,
-  closed-reads.Asked,
-  closed-reads.Learnt,
-  atom-reads.Asked,
-  atom-reads.Learnt,
-) (factor-at t) factor.Post
-factor-atom-requires t c κs =
-    let e = c .before .before .look .ensures in
-    (c .before .before .before .before .pre .1, λ z. c .before .if1 .left (e ∙ z), λ z. c .if3 .left (e ∙ z))
-
-factor-returns-5 : (t : ℕ) → factor-lts.Need-returns-5 (
-  look-reads.Asked,
-  look-reads.Learnt,
-  stuck-reads.Asked,
-  stuck-reads.Learnt,
-  skip-reads.Asked,
-  skip-reads.Learnt,
-  factor-below t,
-  factor.Post,
-  with-gate-reads.Asked,
-  with-gate-reads.Learnt,
-  or-level-below t,
-  or-level.Post,
-  closed-reads.Asked,
-  closed-reads.Learnt,
-  atom-reads.Asked,
-  atom-reads.Learnt,
-) (factor-at t) factor.Post
-factor-returns-5 t c = c .atom .ensures _ _ _ _
-
-abbrev or-level-Inv-loop : or-level-lts.InvT-loop
-or-level-Inv-loop s at depth c gates known kind₀ left₀ right₀ first₀ from₀ p₀ kind left right first from p =
-    OrsTurn s depth (c .switches) (c .faults) gates known at first from p kind₀ left₀ right₀ kind left right
-
-abbrev or-level-μ-loop : or-level-lts.MeasureT-loop
-or-level-μ-loop s at depth c gates known kind₀ left₀ right₀ first₀ from₀ p₀ kind left right first from p = length s - from
-
-or-level-loop-holds : (t : ℕ) → or-level-lts.Need-loop-holds (
-  and-level-below t,
-  and-level.Post,
-  or-gate-reads.Asked,
-  or-gate-reads.Learnt,
-  goes-on-reads.Asked,
-  goes-on-reads.Learnt,
-  same-reads.Asked,
-  same-reads.Learnt,
-  operand-at-reads.Asked,
-  operand-at-reads.Learnt,
-) (or-level-at t) or-level.Post or-level-Inv-loop or-level-μ-loop
-or-level-loop-holds t c = turn-begins _ _ _ _ _ _ _ _ _ _ _ (c .before .pre .1) refl refl
-
-or-level-and-level-requires : (t : ℕ) → or-level-lts.Need-and-level-requires (
-  and-level-below t,
-  and-level.Post,
-  or-gate-reads.Asked,
-  or-gate-reads.Learnt,
-  goes-on-reads.Asked,
-  goes-on-reads.Learnt,
-  same-reads.Asked,
-  same-reads.Learnt,
-  operand-at-reads.Asked,
-  operand-at-reads.Learnt,
-) (or-level-at t) or-level.Post or-level-Inv-loop or-level-μ-loop
-or-level-and-level-requires t c κs = (omega arith, c .before .before .before .loop .inv .asked)
-
-or-level-or-gate-requires : (t : ℕ) → or-level-lts.Need-or-gate-requires (
-  and-level-below t,
-  and-level.Post,
-  or-gate-reads.Asked,
-  or-gate-reads.Learnt,
-  goes-on-reads.Asked,
-  goes-on-reads.Learnt,
-  same-reads.Asked,
-  same-reads.Learnt,
-  operand-at-reads.Asked,
-  operand-at-reads.Learnt,
-) (or-level-at t) or-level.Post or-level-Inv-loop or-level-μ-loop
-or-level-or-gate-requires t c κs = (c .before .before .before .before .before .before .before .before .before .pre .1 .switches, c .before .before .before .before .before .before .before .before .before .pre .1 .faults, c .before .before .before .and-level .ensures .0 .few)
-
-or-level-goes-on-requires : (t : ℕ) → or-level-lts.Need-goes-on-requires (
-  and-level-below t,
-  and-level.Post,
-  or-gate-reads.Asked,
-  or-gate-reads.Learnt,
-  goes-on-reads.Asked,
-  goes-on-reads.Learnt,
-  same-reads.Asked,
-  same-reads.Learnt,
-  operand-at-reads.Asked,
-  operand-at-reads.Learnt,
-) (or-level-at t) or-level.Post or-level-Inv-loop or-level-μ-loop
-or-level-goes-on-requires t c κs = search needs
-
-or-level-same-requires : (t : ℕ) → or-level-lts.Need-same-requires (
-  and-level-below t,
-  and-level.Post,
-  or-gate-reads.Asked,
-  or-gate-reads.Learnt,
-  goes-on-reads.Asked,
-  goes-on-reads.Learnt,
-  same-reads.Asked,
-  same-reads.Learnt,
-  operand-at-reads.Asked,
-  operand-at-reads.Learnt,
-) (or-level-at t) or-level.Post or-level-Inv-loop or-level-μ-loop
-or-level-same-requires t c κs = search needs
-
-or-level-returns : (t : ℕ) → or-level-lts.Need-returns (
-  and-level-below t,
-  and-level.Post,
-  or-gate-reads.Asked,
-  or-gate-reads.Learnt,
-  goes-on-reads.Asked,
-  goes-on-reads.Learnt,
-  same-reads.Asked,
-  same-reads.Learnt,
-  operand-at-reads.Asked,
-  operand-at-reads.Learnt,
-) (or-level-at t) or-level.Post or-level-Inv-loop or-level-μ-loop
-or-level-returns t c =
-    rw (c .same .ensures) (turn-read _ _ _ _ _ _ _ (c .before .before .before .before .before .before .before .before .before .before .before .before .before .pre .1) _ _ _ _ _ _ _ _ _ _ _ _ _ _ _ _ _ (c .before .before .before .before .before .before .before .before .before .before .before .loop .inv) (c .before .before .before .before .before .before .before .and-level .ensures .0) (c .before .before .before .or-gate .ensures), turn-ends _ _ _ _ _ _ _ (c .before .before .before .before .before .before .before .before .before .before .before .before .before .pre .1) _ _ _ _ _ _ _ _ _ _ _ _ _ _ _ _ _ (c .before .before .before .before .before .before .before .before .before .before .before .loop .inv) (c .before .before .before .before .before .before .before .and-level .ensures .0) (c .before .before .before .or-gate .ensures) andSign (c .before .before .before .before .before .before .before .and-level .ensures .1), goes-ends _ _ orSign (sym (c .before .before .goes-on .ensures) ∙ not-true _ (c .before .if1 .taken)))
-
-or-level-operand-at-requires : (t : ℕ) → or-level-lts.Need-operand-at-requires (
-  and-level-below t,
-  and-level.Post,
-  or-gate-reads.Asked,
-  or-gate-reads.Learnt,
-  goes-on-reads.Asked,
-  goes-on-reads.Learnt,
-  same-reads.Asked,
-  same-reads.Learnt,
-  operand-at-reads.Asked,
-  operand-at-reads.Learnt,
-) (or-level-at t) or-level.Post or-level-Inv-loop or-level-μ-loop
-or-level-operand-at-requires t c κs = sign-stands _ _ orSign (omega arith) (sym (c .before .goes-on .ensures) ∙ not-false _ (c .if1 .left))
-
-or-level-loop-less : (t : ℕ) → or-level-lts.Need-loop-less (
-  and-level-below t,
-  and-level.Post,
-  or-gate-reads.Asked,
-  or-gate-reads.Learnt,
-  goes-on-reads.Asked,
-  goes-on-reads.Learnt,
-  same-reads.Asked,
-  same-reads.Learnt,
-  operand-at-reads.Asked,
-  operand-at-reads.Learnt,
-) (or-level-at t) or-level.Post or-level-Inv-loop or-level-μ-loop
-or-level-loop-less t c = rw (c .operand-at .ensures) (turn-less _ _ _ _ _ _ _ (c .before .before .before .before .before .before .before .before .before .before .before .before .before .pre .1) _ _ _ _ _ _ _ _ _ _ _ _ _ _ _ _ _ (c .before .before .before .before .before .before .before .before .before .before .before .loop .inv) (c .before .before .before .before .before .before .before .and-level .ensures .0) (c .before .before .before .or-gate .ensures) (sym (c .before .before .goes-on .ensures) ∙ not-false _ (c .before .if1 .left)))
-
-or-level-loop-again : (t : ℕ) → or-level-lts.Need-loop-again (
-  and-level-below t,
-  and-level.Post,
-  or-gate-reads.Asked,
-  or-gate-reads.Learnt,
-  goes-on-reads.Asked,
-  goes-on-reads.Learnt,
-  same-reads.Asked,
-  same-reads.Learnt,
-  operand-at-reads.Asked,
-  operand-at-reads.Learnt,
-) (or-level-at t) or-level.Post or-level-Inv-loop or-level-μ-loop
-or-level-loop-again t c = rw (c .operand-at .ensures) (turn-next _ _ _ _ _ _ _ (c .before .before .before .before .before .before .before .before .before .before .before .before .before .pre .1) _ _ _ _ _ _ _ _ _ _ _ _ _ _ _ _ _ (c .before .before .before .before .before .before .before .before .before .before .before .loop .inv) (c .before .before .before .before .before .before .before .and-level .ensures .0) (c .before .before .before .or-gate .ensures) (sym (c .before .before .goes-on .ensures) ∙ not-false _ (c .before .if1 .left)))
-
-pub +and-level+factor+or-level-spec : {M : Type 1} → statement M
-+and-level+factor+or-level-spec = close μ-and-level μ-factor μ-or-level (λ t. and-level-lts.spec (
+-- what the callees of each ask and promise
+abbrev and-level-claims : ℕ → and-level-lts.Claims
+and-level-claims t = (
   factor-below t,
   factor.Post,
   goes-on-reads.Asked,
@@ -757,6 +77,192 @@ pub +and-level+factor+or-level-spec : {M : Type 1} → statement M
   same-reads.Asked,
   same-reads.Learnt,
 )
+
+abbrev factor-claims : ℕ → factor-lts.Claims
+factor-claims t = (
+  look-reads.Asked,
+  look-reads.Learnt,
+  stuck-reads.Asked,
+  stuck-reads.Learnt,
+  skip-reads.Asked,
+  skip-reads.Learnt,
+  factor-below t,
+  factor.Post,
+  with-gate-reads.Asked,
+  with-gate-reads.Learnt,
+  or-level-below t,
+  or-level.Post,
+  closed-reads.Asked,
+  closed-reads.Learnt,
+  atom-reads.Asked,
+  atom-reads.Learnt,
+)
+
+abbrev or-level-claims : ℕ → or-level-lts.Claims
+or-level-claims t = (
+  and-level-below t,
+  and-level.Post,
+  or-gate-reads.Asked,
+  or-gate-reads.Learnt,
+  goes-on-reads.Asked,
+  goes-on-reads.Learnt,
+  same-reads.Asked,
+  same-reads.Learnt,
+  operand-at-reads.Asked,
+  operand-at-reads.Learnt,
+)
+
+abbrev and-level-Inv-loop : and-level-lts.InvT-loop
+and-level-Inv-loop s at depth c gates known kind₀ left₀ right₀ p₀ kind left right p =
+    (k l r : List ℕ) → AndsRead s depth (c .switches) (c .faults) gates known at p₀ k l r kind₀ left₀ right₀ → AndsRead s depth (c .switches) (c .faults) gates known at p k l r kind left right
+
+abbrev and-level-μ-loop : and-level-lts.MeasureT-loop
+and-level-μ-loop s at depth c gates known kind₀ left₀ right₀ p₀ kind left right p = bytesLeft s p
+
+and-level-factor-requires : (t : ℕ) → and-level-lts.Need-factor-requires (and-level-claims t) (and-level-at t) and-level.Post and-level-Inv-loop and-level-μ-loop
+and-level-factor-requires t c κs = (omega arith, c .before .before .before .before .pre .1)
+
+and-level-loop-holds : (t : ℕ) → and-level-lts.Need-loop-holds (and-level-claims t) (and-level-at t) and-level.Post and-level-Inv-loop and-level-μ-loop
+and-level-loop-holds t c = λ k l r h. h
+
+and-level-goes-on-requires : (t : ℕ) → and-level-lts.Need-goes-on-requires (and-level-claims t) (and-level-at t) and-level.Post and-level-Inv-loop and-level-μ-loop
+and-level-goes-on-requires t c κs = search needs
+
+and-level-operand-at-requires : (t : ℕ) → and-level-lts.Need-operand-at-requires (and-level-claims t) (and-level-at t) and-level.Post and-level-Inv-loop and-level-μ-loop
+and-level-operand-at-requires t c κs = sign-stands _ _ andSign (omega arith) (sym (c .before .goes-on .ensures) ∙ c .if1 .taken)
+
+and-level-factor-requires-2 : (t : ℕ) → and-level-lts.Need-factor-requires-2 (and-level-claims t) (and-level-at t) and-level.Post and-level-Inv-loop and-level-μ-loop
+and-level-factor-requires-2 t c κs =
+    let h = c .before .before .before .before .before .before .loop .inv _ _ _ (ands-first _ _ _ _ _ _ _ _ _ _ _ _ _ _ (c .before .before .before .before .before .before .before .factor .ensures)) in
+    (omega arith, subst (λ n. Asked (now (c .before .before .before .before .before .before .before .before .before .before .before .before .args .s)) (c .before .before .before .before .before .before .before .before .before .before .before .before .args .c .switches) (c .before .before .before .before .before .before .before .before .before .before .before .before .args .c .faults) (c .before .before .before .before .before .before .loop .p .gates) n) (sym (c .before .before .before .operand-at .ensures)) (operand-asked _ _ andSign (omega arith) (sym (c .before .before .before .before .before .goes-on .ensures) ∙ c .before .before .before .before .if1 .taken) _ _ _ _ _ _ _ _ _ _ _ _ _ (c .before .before .before .before .before .before .before .before .before .before .before .before .pre .1) h))
+
+and-level-with-gate-requires : (t : ℕ) → and-level-lts.Need-with-gate-requires (and-level-claims t) (and-level-at t) and-level.Post and-level-Inv-loop and-level-μ-loop
+and-level-with-gate-requires t c κs = (c .before .before .before .before .before .before .before .before .before .before .before .before .before .before .before .before .pre .1 .switches, c .before .before .before .before .before .before .before .before .before .before .before .before .before .before .before .before .pre .1 .faults, c .before .before .before .factor2 .ensures .few)
+
+and-level-loop-less : (t : ℕ) → and-level-lts.Need-loop-less (and-level-claims t) (and-level-at t) and-level.Post and-level-Inv-loop and-level-μ-loop
+and-level-loop-less t c = less-left _ _ andSign (omega arith) (sym (c .before .before .before .before .before .before .before .before .before .before .goes-on .ensures) ∙ c .before .before .before .before .before .before .before .before .before .if1 .taken) _ _ _ _ _ _ _ _ _ _ _ _ _ _ _ _ _ _ (rw (c .before .before .before .before .before .before .before .before .operand-at .ensures) at (c .before .before .before .before .factor2 .ensures)) (c .with-gate .ensures)
+
+and-level-loop-again : (t : ℕ) → and-level-lts.Need-loop-again (and-level-claims t) (and-level-at t) and-level.Post and-level-Inv-loop and-level-μ-loop
+and-level-loop-again t c = λ k l r h. ands-more _ _ _ _ _ _ _ (c .before .before .before .before .before .before .before .before .before .before .before .before .before .before .before .before .before .pre .1) _ _ _ k l r _ _ _ _ _ _ _ _ _ (c .before .before .before .before .before .before .before .before .before .before .before .loop .inv k l r h) (sym (c .before .before .before .before .before .before .before .before .before .before .goes-on .ensures) ∙ c .before .before .before .before .before .before .before .before .before .if1 .taken) (rw (c .before .before .before .before .before .before .before .before .operand-at .ensures) at (c .before .before .before .before .factor2 .ensures)) (c .with-gate .ensures)
+
+and-level-same-requires : (t : ℕ) → and-level-lts.Need-same-requires (and-level-claims t) (and-level-at t) and-level.Post and-level-Inv-loop and-level-μ-loop
+and-level-same-requires t c κs = search needs
+
+and-level-returns : (t : ℕ) → and-level-lts.Need-returns (and-level-claims t) (and-level-at t) and-level.Post and-level-Inv-loop and-level-μ-loop
+and-level-returns t c =
+    let h = c .before .before .before .loop .inv _ _ _ (ands-first _ _ _ _ _ _ _ _ _ _ _ _ _ _ (c .before .before .before .before .factor .ensures)) in
+    rw (c .same .ensures) (h, goes-ends _ _ andSign (sym (c .before .before .goes-on .ensures) ∙ c .before .if1 .left))
+
+factor-look-requires : (t : ℕ) → factor-lts.Need-look-requires (factor-claims t) (factor-at t) factor.Post
+factor-look-requires t c κs = search needs
+
+factor-stuck-requires : (t : ℕ) → factor-lts.Need-stuck-requires (factor-claims t) (factor-at t) factor.Post
+factor-stuck-requires t c κs = search needs
+
+factor-returns : (t : ℕ) → factor-lts.Need-returns (factor-claims t) (factor-at t) factor.Post
+factor-returns t c =
+    let a = c .before .before .before .before .before .args in
+    too-deep _ _ _ _ _ _ _ _ _ _ _ (c .before .if2 .taken) (c .before .before .before .before .before .pre .1 .within) (inl (sym (c .before .before .before .look .ensures) ∙ c .before .before .if1 .taken)) (c .stuck .ensures)
+
+factor-add-skip : (t : ℕ) → factor-lts.Need-add-skip (factor-claims t) (factor-at t) factor.Post
+factor-add-skip t c =
+    let e = c .before .before .look .ensures in
+    omega (arith, stands (now (c .before .before .before .before .args .s)) (c .before .before .before .before .args .at) (omega arith))
+
+factor-skip-requires : (t : ℕ) → factor-lts.Need-skip-requires (factor-claims t) (factor-at t) factor.Post
+factor-skip-requires t c κs = search needs
+
+factor-sub-factor : (t : ℕ) → factor-lts.Need-sub-factor (factor-claims t) (factor-at t) factor.Post
+factor-sub-factor t c = search needs
+
+factor-factor-requires : (t : ℕ) → factor-lts.Need-factor-requires (factor-claims t) (factor-at t) factor.Post
+factor-factor-requires t c κs =
+    let a = c .before .before .before .before .before .before .before .before .args in
+    (omega arith, subst (λ n. Asked (now (a .s)) (a .c .switches) (a .c .faults) (a .gates) n) (sym (c .before .before .before .skip .ensures)) (inner-asked _ _ _ _ _ (c .before .before .before .before .before .before .before .before .pre .1) (omega (arith, c .before .before .before .before .before .before .look .ensures))))
+
+factor-with-gate-requires : (t : ℕ) → factor-lts.Need-with-gate-requires (factor-claims t) (factor-at t) factor.Post
+factor-with-gate-requires t c κs = (c .before .before .before .before .before .before .before .before .before .before .before .before .pre .1 .switches, c .before .before .before .before .before .before .before .before .before .before .before .before .pre .1 .faults, c .before .before .before .factor .ensures .few)
+
+factor-returns-2 : (t : ℕ) → factor-lts.Need-returns-2 (factor-claims t) (factor-at t) factor.Post
+factor-returns-2 t c =
+    not-read _ _ _ _ _ _ _ (c .before .before .before .before .before .before .before .before .before .before .before .before .before .pre .1) _ _ _ _ _ _ _ _ _ _ _ (sym (c .before .before .before .before .before .before .before .before .before .before .before .look .ensures) ∙ c .before .before .before .before .before .before .before .before .before .before .if1 .taken) (c .before .before .before .before .before .before .before .before .before .if2 .left) (rw (c .before .before .before .before .before .before .before .before .skip .ensures) at (c .before .before .before .before .factor .ensures)) (c .with-gate .ensures)
+
+factor-stuck-requires-2 : (t : ℕ) → factor-lts.Need-stuck-requires-2 (factor-claims t) (factor-at t) factor.Post
+factor-stuck-requires-2 t c κs = search needs
+
+factor-returns-3 : (t : ℕ) → factor-lts.Need-returns-3 (factor-claims t) (factor-at t) factor.Post
+factor-returns-3 t c =
+    let a = c .before .before .before .before .before .before .args in
+    too-deep _ _ _ _ _ _ _ _ _ _ _ (c .before .if4 .taken) (c .before .before .before .before .before .before .pre .1 .within) (inr (sym (c .before .before .before .before .look .ensures) ∙ c .before .before .if3 .taken)) (c .stuck2 .ensures)
+
+factor-add-skip-2 : (t : ℕ) → factor-lts.Need-add-skip-2 (factor-claims t) (factor-at t) factor.Post
+factor-add-skip-2 t c =
+    let e = c .before .before .before .look .ensures in
+    omega (arith, stands (now (c .before .before .before .before .before .args .s)) (c .before .before .before .before .before .args .at) (omega arith))
+
+factor-skip-requires-2 : (t : ℕ) → factor-lts.Need-skip-requires-2 (factor-claims t) (factor-at t) factor.Post
+factor-skip-requires-2 t c κs = search needs
+
+factor-sub-or-level : (t : ℕ) → factor-lts.Need-sub-or-level (factor-claims t) (factor-at t) factor.Post
+factor-sub-or-level t c = search needs
+
+factor-or-level-requires : (t : ℕ) → factor-lts.Need-or-level-requires (factor-claims t) (factor-at t) factor.Post
+factor-or-level-requires t c κs =
+    let a = c .before .before .before .before .before .before .before .before .before .args in
+    (omega arith, subst (λ n. Asked (now (a .s)) (a .c .switches) (a .c .faults) (a .gates) n) (sym (c .before .before .before .skip2 .ensures)) (inner-asked _ _ _ _ _ (c .before .before .before .before .before .before .before .before .before .pre .1) (omega (arith, c .before .before .before .before .before .before .before .look .ensures))))
+
+factor-closed-requires : (t : ℕ) → factor-lts.Need-closed-requires (factor-claims t) (factor-at t) factor.Post
+factor-closed-requires t c κs = search needs
+
+factor-returns-4 : (t : ℕ) → factor-lts.Need-returns-4 (factor-claims t) (factor-at t) factor.Post
+factor-returns-4 t c =
+    bracket-read _ _ _ _ _ _ _ (c .before .before .before .before .before .before .before .before .before .before .before .pre .1) _ _ _ _ _ _ _ _ (sym (c .before .before .before .before .before .before .before .before .before .look .ensures) ∙ c .before .before .before .before .before .before .before .if3 .taken) (c .before .before .before .before .before .before .if4 .left) (rw (c .before .before .before .before .before .skip2 .ensures) at (c .before .or-level .ensures .0)) (c .before .or-level .ensures .1) (c .before .or-level .ensures .2) (c .closed .ensures)
+
+factor-atom-requires : (t : ℕ) → factor-lts.Need-atom-requires (factor-claims t) (factor-at t) factor.Post
+factor-atom-requires t c κs =
+    let e = c .before .before .look .ensures in
+    (c .before .before .before .before .pre .1, λ z. c .before .if1 .left (e ∙ z), λ z. c .if3 .left (e ∙ z))
+
+factor-returns-5 : (t : ℕ) → factor-lts.Need-returns-5 (factor-claims t) (factor-at t) factor.Post
+factor-returns-5 t c = c .atom .ensures _ _ _ _
+
+abbrev or-level-Inv-loop : or-level-lts.InvT-loop
+or-level-Inv-loop s at depth c gates known kind₀ left₀ right₀ first₀ from₀ p₀ kind left right first from p =
+    OrsTurn s depth (c .switches) (c .faults) gates known at first from p kind₀ left₀ right₀ kind left right
+
+abbrev or-level-μ-loop : or-level-lts.MeasureT-loop
+or-level-μ-loop s at depth c gates known kind₀ left₀ right₀ first₀ from₀ p₀ kind left right first from p = length s - from
+
+or-level-loop-holds : (t : ℕ) → or-level-lts.Need-loop-holds (or-level-claims t) (or-level-at t) or-level.Post or-level-Inv-loop or-level-μ-loop
+or-level-loop-holds t c = turn-begins _ _ _ _ _ _ _ _ _ _ _ (c .before .pre .1) refl refl
+
+or-level-and-level-requires : (t : ℕ) → or-level-lts.Need-and-level-requires (or-level-claims t) (or-level-at t) or-level.Post or-level-Inv-loop or-level-μ-loop
+or-level-and-level-requires t c κs = (omega arith, c .before .before .before .loop .inv .asked)
+
+or-level-or-gate-requires : (t : ℕ) → or-level-lts.Need-or-gate-requires (or-level-claims t) (or-level-at t) or-level.Post or-level-Inv-loop or-level-μ-loop
+or-level-or-gate-requires t c κs = (c .before .before .before .before .before .before .before .before .before .pre .1 .switches, c .before .before .before .before .before .before .before .before .before .pre .1 .faults, c .before .before .before .and-level .ensures .0 .few)
+
+or-level-goes-on-requires : (t : ℕ) → or-level-lts.Need-goes-on-requires (or-level-claims t) (or-level-at t) or-level.Post or-level-Inv-loop or-level-μ-loop
+or-level-goes-on-requires t c κs = search needs
+
+or-level-same-requires : (t : ℕ) → or-level-lts.Need-same-requires (or-level-claims t) (or-level-at t) or-level.Post or-level-Inv-loop or-level-μ-loop
+or-level-same-requires t c κs = search needs
+
+or-level-returns : (t : ℕ) → or-level-lts.Need-returns (or-level-claims t) (or-level-at t) or-level.Post or-level-Inv-loop or-level-μ-loop
+or-level-returns t c =
+    rw (c .same .ensures) (turn-read _ _ _ _ _ _ _ (c .before .before .before .before .before .before .before .before .before .before .before .before .before .pre .1) _ _ _ _ _ _ _ _ _ _ _ _ _ _ _ _ _ (c .before .before .before .before .before .before .before .before .before .before .before .loop .inv) (c .before .before .before .before .before .before .before .and-level .ensures .0) (c .before .before .before .or-gate .ensures), turn-ends _ _ _ _ _ _ _ (c .before .before .before .before .before .before .before .before .before .before .before .before .before .pre .1) _ _ _ _ _ _ _ _ _ _ _ _ _ _ _ _ _ (c .before .before .before .before .before .before .before .before .before .before .before .loop .inv) (c .before .before .before .before .before .before .before .and-level .ensures .0) (c .before .before .before .or-gate .ensures) andSign (c .before .before .before .before .before .before .before .and-level .ensures .1), goes-ends _ _ orSign (sym (c .before .before .goes-on .ensures) ∙ not-true _ (c .before .if1 .taken)))
+
+or-level-operand-at-requires : (t : ℕ) → or-level-lts.Need-operand-at-requires (or-level-claims t) (or-level-at t) or-level.Post or-level-Inv-loop or-level-μ-loop
+or-level-operand-at-requires t c κs = sign-stands _ _ orSign (omega arith) (sym (c .before .goes-on .ensures) ∙ not-false _ (c .if1 .left))
+
+or-level-loop-less : (t : ℕ) → or-level-lts.Need-loop-less (or-level-claims t) (or-level-at t) or-level.Post or-level-Inv-loop or-level-μ-loop
+or-level-loop-less t c = rw (c .operand-at .ensures) (turn-less _ _ _ _ _ _ _ (c .before .before .before .before .before .before .before .before .before .before .before .before .before .pre .1) _ _ _ _ _ _ _ _ _ _ _ _ _ _ _ _ _ (c .before .before .before .before .before .before .before .before .before .before .before .loop .inv) (c .before .before .before .before .before .before .before .and-level .ensures .0) (c .before .before .before .or-gate .ensures) (sym (c .before .before .goes-on .ensures) ∙ not-false _ (c .before .if1 .left)))
+
+or-level-loop-again : (t : ℕ) → or-level-lts.Need-loop-again (or-level-claims t) (or-level-at t) or-level.Post or-level-Inv-loop or-level-μ-loop
+or-level-loop-again t c = rw (c .operand-at .ensures) (turn-next _ _ _ _ _ _ _ (c .before .before .before .before .before .before .before .before .before .before .before .before .before .pre .1) _ _ _ _ _ _ _ _ _ _ _ _ _ _ _ _ _ (c .before .before .before .before .before .before .before .before .before .before .before .loop .inv) (c .before .before .before .before .before .before .before .and-level .ensures .0) (c .before .before .before .or-gate .ensures) (sym (c .before .before .goes-on .ensures) ∙ not-false _ (c .before .if1 .left)))
+
+pub +and-level+factor+or-level-spec : {M : Type 1} → statement M
++and-level+factor+or-level-spec = close μ-and-level μ-factor μ-or-level (λ t. and-level-lts.spec (and-level-claims t)
     (and-level-at t)
     and-level.Post
     and-level-Inv-loop
@@ -771,24 +277,7 @@ pub +and-level+factor+or-level-spec : {M : Type 1} → statement M
     (and-level-loop-again t)
     (and-level-same-requires t)
     (and-level-returns t))
-    (λ t. factor-lts.spec (
-      look-reads.Asked,
-      look-reads.Learnt,
-      stuck-reads.Asked,
-      stuck-reads.Learnt,
-      skip-reads.Asked,
-      skip-reads.Learnt,
-      factor-below t,
-      factor.Post,
-      with-gate-reads.Asked,
-      with-gate-reads.Learnt,
-      or-level-below t,
-      or-level.Post,
-      closed-reads.Asked,
-      closed-reads.Learnt,
-      atom-reads.Asked,
-      atom-reads.Learnt,
-    )
+    (λ t. factor-lts.spec (factor-claims t)
     (factor-at t)
     factor.Post
     (factor-look-requires t)
@@ -810,18 +299,7 @@ pub +and-level+factor+or-level-spec : {M : Type 1} → statement M
     (factor-returns-4 t)
     (factor-atom-requires t)
     (factor-returns-5 t))
-    λ t. or-level-lts.spec (
-      and-level-below t,
-      and-level.Post,
-      or-gate-reads.Asked,
-      or-gate-reads.Learnt,
-      goes-on-reads.Asked,
-      goes-on-reads.Learnt,
-      same-reads.Asked,
-      same-reads.Learnt,
-      operand-at-reads.Asked,
-      operand-at-reads.Learnt,
-    )
+    λ t. or-level-lts.spec (or-level-claims t)
     (or-level-at t)
     or-level.Post
     or-level-Inv-loop
