@@ -43,7 +43,7 @@ pub struct Parsed {
     pub gates: u32,
 }
 
-// Field by field: a copy of the whole copies the bytes between the fields too, and took a third of the reading.
+// Field by field: a copy of the whole copies the bytes between the fields too.
 fn same(p: Parsed) -> Parsed
     ensures { λ r. ⌜ r ≡ p ⌝ }
 {
