@@ -14,6 +14,8 @@ pub mod Parsing
 pub mod Rule
 pub mod Jobs
 pub mod Demands
+pub mod Tables
+pub mod Writing
 pub mod Program
 pub mod Claims
 pub mod Examples

@@ -9,7 +9,8 @@ use lib.ListN.{length, take}
 use Rattle.scope.specs.Sheet.{Number, Clause, Gate, Sheet, Letter, H, N, A, O, R, W, Z, Line, mostSwitches, mostFaults, mostGates, mostRules, mostWishes, mostLiterals}
 use Rattle.scope.specs.Reading.{literals, Row, lineSize, lineCount, lengthOk}
 use Rattle.scope.specs.Causes.{Met, First}
-use Rattle.sheet.specs.Tables.{padded, kindOf, leftOf, rightOf, pointOf, literalAt}
+use Rattle.scope.specs.Tables.{kindOf, leftOf, rightOf, literalAt}
+use Rattle.sheet.specs.Tables.{padded, pointOf}
 use Rattle.sheet.specs.declared.tables.Counts.{Counts}
 
 -- the counts of a sheet

@@ -1,45 +1,20 @@
 -- What a reader returns, word by word, for a sheet and for a refusal. Assumes nothing.
-use Prim.Native.Nat.{ℕ, _+_, _-_, _*_}
-use Prim.Native.Char.{code}
-use mathlib.Core.Bool.{cond}
+use Prim.Native.Nat.{ℕ, _-_}
 use mathlib.Core.List.{List, _++_, map}
 use mathlib.Core.Path.{_≡_}
-use lib.ListN.{length, getD, replicate}
-use Rattle.scope.specs.Sheet.{Number, plus, Clause, Gate, Sheet, mostGates, mostRules, mostWishes}
+use lib.ListN.{length, replicate}
+use Rattle.scope.specs.Sheet.{Sheet, mostGates, mostRules, mostWishes}
 use Rattle.scope.specs.Reading.{started, Read, accepted, refused}
 use Rattle.scope.specs.Source.{Source}
+use Rattle.scope.specs.Tables.{kindOf, leftOf, rightOf, literalAt}
 use Rattle.sheet.specs.declared.tables.Tables.{Tables}
 
 -- n words: f of each entry, then zeros
 unfoldable pub padded : {A : Type 0} → ℕ → (A → ℕ) → List A → List ℕ
 padded n f l = map f l ++ replicate (n - length l) 0
 
--- a gate: its letter and the points that it names
-abbrev pub kindOf : Gate → ℕ
-kindOf (Gate.not p) = code "N"
-kindOf (Gate.and p q) = code "A"
-kindOf (Gate.or p q) = code "O"
-
-abbrev pub leftOf : Gate → ℕ
-leftOf (Gate.not p) = p
-leftOf (Gate.and p q) = p
-leftOf (Gate.or p q) = p
-
-abbrev pub rightOf : Gate → ℕ
-rightOf (Gate.not p) = 0
-rightOf (Gate.and p q) = q
-rightOf (Gate.or p q) = q
-
 abbrev pub pointOf : ℕ → ℕ
 pointOf p = p
-
--- a literal k as 2k, -k as 2k + 1
-abbrev pub literalCode : Number → ℕ
-literalCode x = cond (x .minus) (x .size * 2 + 1) (x .size * 2)
-
--- literal i of a wish, and 0 past its last
-abbrev pub literalAt : ℕ → Clause → ℕ
-literalAt i w = literalCode (getD w i (plus 0))
 
 unfoldable pub tables : (number place column : ℕ) → Sheet → Tables
 tables n k c t = record {

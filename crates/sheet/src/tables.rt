@@ -4,7 +4,8 @@ ghost use mathlib.Core.Path.{_≡_};
 ghost use Prim.Native.Nat.{_<_};
 ghost use Rattle.scope.specs.Sheet.{Sheet, Gate, Clause, mostGates, mostRules, mostWishes};
 ghost use Rattle.scope.specs.Reading.{addGate, addRule, addWish};
-ghost use Rattle.sheet.specs.Tables.{padded, kindOf, leftOf, rightOf, pointOf, literalAt, refusal};
+ghost use Rattle.scope.specs.Tables.{kindOf, leftOf, rightOf, literalAt};
+ghost use Rattle.sheet.specs.Tables.{padded, pointOf, refusal};
 ghost use Rattle.sheet.specs.Steps.{Counted, GateColumns, WishColumns};
 
 pub const MOST_GATES: usize = 400;

@@ -11,7 +11,7 @@ use Rattle.scope.specs.Sheet.{Gate, mostGates}
 use Rattle.scope.specs.Typed.{Formula, mostText, mostNumber, mostNested, ors, ands, factor, operators, point, gatesOf, known}
 use Rattle.scope.specs.Parsing.{Around, first, head, nested, operand, after, operandDone, joinedOr, outside}
 use Rattle.sheet.specs.Steps.{GateColumns}
-use Rattle.sheet.specs.Tables.{kindOf, leftOf, rightOf}
+use Rattle.scope.specs.Tables.{kindOf, leftOf, rightOf}
 use Rattle.text.specs.Look.{look, skip}
 use Rattle.text.specs.Words.{Stuck, Came}
 use Rattle.text.specs.declared.formula.Parsed.{Parsed}

@@ -17,7 +17,8 @@ use Rattle.scope.specs.Text.{bytes}
 use Rattle.scope.specs.Parsing.{State, word, digits, literal, start, ruleLine, wishLine, wish, ended}
 use Rattle.sheet.specs.Steps.{WishColumns, rowOf}
 use Rattle.sheet.specs.Steps as sheet
-use Rattle.sheet.specs.Tables.{padded, pointOf, literalCode, literalAt}
+use Rattle.scope.specs.Tables.{literalCode, literalAt}
+use Rattle.sheet.specs.Tables.{padded, pointOf}
 use Rattle.text.specs.Look.{look}
 use Rattle.text.specs.Words.{Stuck, Came}
 use Rattle.text.specs.Formulas.{Holds}

@@ -6,7 +6,7 @@ ghost use Prim.Native.Nat.{_+_, _≤_, _<_};
 ghost use lib.ListN.{length};
 ghost use Rattle.scope.specs.Sheet.{number, mostLiterals};
 ghost use Rattle.scope.specs.Typed.{Formula, mostText, mostNumber};
-ghost use Rattle.sheet.specs.Tables.{literalCode};
+ghost use Rattle.scope.specs.Tables.{literalCode};
 ghost use Rattle.text.specs.Look as place;
 ghost use Rattle.text.specs.Lines.{wishLetter, noWish, WithLiteral, LiteralRead, LiteralsRead, named, oneLiteral, moreLiterals, WishKept, WithWish, WishLineRead, Begun, WishesTold, WishesRead, Further, NoMore};
 use crate::formula::Points;

@@ -11,7 +11,8 @@ use Rattle.scope.specs.Sheet.{Number, number, Clause, Gate, Sheet, sheet, mostG
 use Rattle.scope.specs.Reading.{Read, accepted, refused, started}
 use Rattle.circuit.specs.Lent.{Columns, rows, gateOf, gatesOf, literalsOf, clauseOf, wishesOf, Gates, Clauses, circuit}
 use Rattle.sheet.specs.declared.tables.Tables.{Tables}
-use Rattle.sheet.specs.Tables.{padded, kindOf, leftOf, rightOf, pointOf, literalCode, literalAt, tables, outcome, Sourced}
+use Rattle.scope.specs.Tables.{kindOf, leftOf, rightOf, literalCode, literalAt}
+use Rattle.sheet.specs.Tables.{padded, pointOf, tables, outcome, Sourced}
 
 -- ---- what was coded is read again
 

@@ -10,7 +10,7 @@ use borrow.Author.Tests.{eqb-true, leb-true, not-true}
 use Rattle.scope.specs.Sheet.{Number, number, plus, mostSwitches}
 use Rattle.scope.specs.Reading.{is, literal, zeros, literals, clause, at}
 use Rattle.scope.specs.laws.Tests.{both}
-use Rattle.sheet.specs.Tables.{literalCode, literalAt}
+use Rattle.scope.specs.Tables.{literalCode, literalAt}
 use Rattle.sheet.specs.Columns.{numberFrom}
 use Rattle.sheet.specs.declared.field.Number as made
 

@@ -16,7 +16,7 @@ use Rattle.scope.specs.laws.Fields.{length-snoc}
 use Rattle.scope.specs.Parsing as parsing
 use Rattle.scope.specs.Parsing.{Around, line, Slot, digits, zeroOk, numberDone, bracket, first, bar, head, amp, bang, nested, operand, after, operandDone, joinedOr, outside}
 use Rattle.sheet.specs.Steps.{GateColumns}
-use Rattle.sheet.specs.Tables.{kindOf, leftOf, rightOf}
+use Rattle.scope.specs.Tables.{kindOf, leftOf, rightOf}
 use Rattle.text.specs.Look.{end, look, skip}
 use Rattle.text.specs.Words.{Stuck, Came, NumberRead}
 use Rattle.text.specs.Formulas.{Holds, Built, Filled, OrsCame, OrsStuck, OrsCome, LevelRead, FactorRead, AndsRead, OrsRead, AtomRead, Asked, notSign, openSign, andSign, orSign, signAt, operandAt, goesOn, bytesLeft, Ends, gated, Gated, OrGated, OrsTurn, badAt, moved, closedOf}

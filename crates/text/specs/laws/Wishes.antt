@@ -21,7 +21,7 @@ use Rattle.scope.specs.laws.Tests.{clash, both}
 use Rattle.scope.specs.laws.Fields.{length-snoc}
 use Rattle.sheet.specs.Steps as sheet
 use Rattle.sheet.specs.Steps.{WishColumns}
-use Rattle.sheet.specs.Tables.{literalCode, literalAt}
+use Rattle.scope.specs.Tables.{literalCode, literalAt}
 use Rattle.sheet.specs.laws.Rows.{row, none-left}
 use Rattle.text.specs.Look.{look}
 use Rattle.text.specs.Words.{Stuck, Came, WordRead, NamedRead}

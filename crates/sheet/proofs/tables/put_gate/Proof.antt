@@ -1,7 +1,7 @@
 use Prim.Native.Nat.{_<_}
 use lib.ListN.{length}
 use Rattle.scope.specs.Sheet.{mostGates}
-use Rattle.sheet.specs.Tables.{kindOf, leftOf, rightOf}
+use Rattle.scope.specs.Tables.{kindOf, leftOf, rightOf}
 use Rattle.sheet.proofs.tables.Entries.{one-more, set-padded}
 use borrow.Author.Needs.{needs}
 use Rattle.sheet.proofs.tables.put_gate.Statement.{statement}

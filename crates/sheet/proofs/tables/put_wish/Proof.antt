@@ -1,7 +1,7 @@
 use Prim.Native.Nat.{_<_}
 use lib.ListN.{length}
 use Rattle.scope.specs.Sheet.{mostWishes}
-use Rattle.sheet.specs.Tables.{literalAt}
+use Rattle.scope.specs.Tables.{literalAt}
 use Rattle.sheet.proofs.tables.Entries.{one-more, set-padded}
 use borrow.Author.Needs.{needs}
 use Rattle.sheet.proofs.tables.put_wish.Statement.{statement}
