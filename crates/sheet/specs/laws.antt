@@ -2,3 +2,4 @@ pub mod Bounds
 pub mod Outcomes
 pub mod Rows
 pub mod Held
+pub mod Numbers

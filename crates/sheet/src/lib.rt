@@ -3,8 +3,8 @@
 // The crate rests on `scope` alone. Beside Tables, specs/ has the steps of the code and the laws that callers cite.
 mod allowed;
 pub mod causes;
-mod field;
-mod line;
+pub mod field;
+pub mod line;
 mod reader;
 pub mod tables;
 

@@ -13,7 +13,7 @@ use Rattle.scope.specs.Reading.{is, literal, zeros, literals, at}
 use Rattle.sheet.specs.Columns.{numberFrom}
 use Rattle.sheet.specs.Lines.{numbersFrom}
 use Rattle.sheet.specs.declared.field.Number.{Number}
-use Rattle.sheet.proofs.line.Parts.{length-numbers}
+use Rattle.sheet.specs.laws.Numbers.{length-numbers}
 
 module _ (n i : ℕ) (xs : List Number) (l : n ≤ length xs) where
   abbrev ys : List scope.Number

@@ -49,20 +49,6 @@ numbers-set : (i : ℕ) (xs : List Number) (x : Number) → i < length xs → nu
 unfolding numbersFrom
 numbers-set i xs x h = rw (add-one i, map-set numberFrom xs i x) (take-suc-set (map numberFrom xs) i (numberFrom x) (omega (arith, length-map xs numberFrom)))
 
--- ---- the numbers of a line
-
-pub at-numbers : (n i : ℕ) (xs : List Number) → i < n → numberFrom (getD xs i (record { minus = false; size = 0 })) ≡ at (numbersFrom n xs) i
-unfolding numbersFrom
-at-numbers n i xs h = sym (getD-take n (map numberFrom xs) i (plus 0) h ∙ List·getD-map numberFrom xs i (record { minus = false; size = 0 }))
-
-pub length-numbers : (n : ℕ) (xs : List Number) → n ≤ length xs → length (numbersFrom n xs) ≡ n
-unfolding numbersFrom
-length-numbers n xs h = length-take-le n (map numberFrom xs) (omega (arith, length-map xs numberFrom))
-
-pub front-numbers : (m n : ℕ) (xs : List Number) → m ≤ n → take m (numbersFrom n xs) ≡ numbersFrom m xs
-unfolding numbersFrom
-front-numbers m n xs h = take-take m n (map numberFrom xs) h
-
 -- ---- fields: those read, and those left
 
 abbrev after : List scope.Number → Option (List scope.Number) → Option (List scope.Number)

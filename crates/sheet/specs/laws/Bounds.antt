@@ -34,7 +34,7 @@ module _ (t : Sheet) (k : ℕ) (last : Bool) (b : Bounds t) where
   one-more : {E : Type 0} (l : List E) (a : E) (m : ℕ) → length l < m → length (l ++ a ∷ []) ≤ m
   one-more l a m h = omega (arith, length-snoc l a)
 
-  make-bounds : (c : Letter) (xs : List Number) → Met (rows t k last c xs) → Bounds (make t c xs)
+  pub make-bounds : (c : Letter) (xs : List Number) → Met (rows t k last c xs) → Bounds (make t c xs)
   unfolding rows make
   make-bounds H xs (_, (e, _)) =
       let (p, q) = both (upTo mostSwitches (at xs 0)) (upTo mostFaults (at xs 1)) e in

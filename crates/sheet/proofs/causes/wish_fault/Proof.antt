@@ -1,4 +1,4 @@
-use Rattle.sheet.proofs.line.Parts.{front-numbers}
+use Rattle.sheet.specs.laws.Numbers.{front-numbers}
 use Rattle.scope.specs.Reading.{rows, literals}
 use Rattle.scope.specs.Sheet.{mostWishes, mostLiterals}
 use lib.Dec.{ltb}

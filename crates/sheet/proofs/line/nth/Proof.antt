@@ -1,4 +1,4 @@
-use Rattle.sheet.proofs.line.Parts.{at-numbers}
+use Rattle.sheet.specs.laws.Numbers.{at-numbers}
 use borrow.Author.Needs.{needs}
 use Rattle.sheet.proofs.line.nth.Statement.{statement}
 use Rattle.sheet.proofs.line.nth.Tie as tie

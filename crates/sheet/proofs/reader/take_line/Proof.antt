@@ -1,7 +1,7 @@
 use mathlib.Core.Path.{refl, ap}
 use Rattle.scope.specs.Sheet.{Gate, mostLiterals}
 use Rattle.scope.specs.Reading.{make}
-use Rattle.sheet.proofs.line.Parts.{front-numbers}
+use Rattle.sheet.specs.laws.Numbers.{front-numbers}
 use Rattle.sheet.proofs.reader.Held.{head-held, gate-held, rule-held, wish-held}
 use borrow.Author.Needs.{needs}
 use Rattle.sheet.proofs.reader.take_line.Statement.{statement}

@@ -1,0 +1,38 @@
+use borrow.Author.Needs.{needs}
+use Rattle.sheet.specs.Columns.{numberFrom}
+use Rattle.writer.specs.Fields.{field-columns}
+use Rattle.writer.proofs.line.field_bytes.Statement.{statement}
+use Rattle.writer.proofs.line.field_bytes.Tie as tie
+
+sign-requires : tie.Need-sign-requires
+sign-requires c κs = search needs
+
+column-requires : tie.Need-column-requires
+column-requires c κs = search needs
+
+column-requires-2 : tie.Need-column-requires-2
+column-requires-2 c κs = search needs
+
+column-requires-3 : tie.Need-column-requires-3
+column-requires-3 c κs = search needs
+
+column-requires-4 : tie.Need-column-requires-4
+column-requires-4 c κs = search needs
+
+last-digit-requires : tie.Need-last-digit-requires
+last-digit-requires c κs = search needs
+
+returns : tie.Need-returns
+returns c = let s = c .before .before .before .before .before .before in cc (field-columns (numberFrom (s .args .x)) (s .pre))
+
+pub field-bytes-spec : {M : Type 1} → statement M
+field-bytes-spec =
+    tie.close
+    (tie.spec
+    sign-requires
+    column-requires
+    column-requires-2
+    column-requires-3
+    column-requires-4
+    last-digit-requires
+    returns)
