@@ -12,7 +12,7 @@ use crate::field::Number;
 
 pub const MOST_FIELDS: usize = 4;
 
-const HEAD: u8 = b'H';
+pub const HEAD: u8 = b'H';
 
 pub const NOT: u8 = b'N';
 
@@ -20,13 +20,13 @@ pub const AND: u8 = b'A';
 
 pub const OR: u8 = b'O';
 
-const RULE: u8 = b'R';
+pub const RULE: u8 = b'R';
 
-const WISH: u8 = b'W';
+pub const WISH: u8 = b'W';
 
-const END: u8 = b'Z';
+pub const END: u8 = b'Z';
 
-const LINE_FEED: u8 = b'\n';
+pub const LINE_FEED: u8 = b'\n';
 
 pub enum Letter {
     Head,

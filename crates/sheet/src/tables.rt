@@ -1,7 +1,7 @@
 // The tables of a sheet: what `read` returns, and the columns that its lines are put into one by one.
 ghost use mathlib.Core.List.{[], _∷_, _++_};
 ghost use mathlib.Core.Path.{_≡_};
-ghost use Prim.Native.Nat.{_<_};
+ghost use Prim.Native.Nat.{ℕ, _≤_, _<_};
 ghost use Rattle.scope.specs.Sheet.{Sheet, Gate, Clause, mostGates, mostRules, mostWishes};
 ghost use Rattle.scope.specs.Reading.{addGate, addRule, addWish};
 ghost use Rattle.scope.specs.Tables.{kindOf, leftOf, rightOf, literalAt};
@@ -68,6 +68,35 @@ pub fn refused(number: u32, place: usize, column: usize) -> Tables
     }
 }
 
+// The counts with one more entry.
+
+pub fn with_gate(c: Counts) -> Counts
+    requires { ⌜ c .gates ≤ mostGates ⌝ }
+    ensures { λ r. ⌜ ((t : Sheet) (g : Gate) → Counted t c → Counted (addGate t g) r) ⌝ }
+{
+    let mut r = c;
+    r.gates = c.gates + 1;
+    r
+}
+
+pub fn with_rule(c: Counts) -> Counts
+    requires { ⌜ c .rules ≤ mostRules ⌝ }
+    ensures { λ r. ⌜ ((t : Sheet) (p : ℕ) → Counted t c → Counted (addRule t p) r) ⌝ }
+{
+    let mut r = c;
+    r.rules = c.rules + 1;
+    r
+}
+
+pub fn with_wish(c: Counts) -> Counts
+    requires { ⌜ c .wishes ≤ mostWishes ⌝ }
+    ensures { λ r. ⌜ ((t : Sheet) (w : Clause) → Counted t c → Counted (addWish t w) r) ⌝ }
+{
+    let mut r = c;
+    r.wishes = c.wishes + 1;
+    r
+}
+
 // Each of these puts one more entry after those that the columns hold, and returns the counts with it.
 
 pub fn put_gate(
@@ -82,26 +111,20 @@ pub fn put_gate(
     requires { ⌜ c .gates < mostGates ⌝ }
     ensures { λ r. ⌜ ((t : Sheet) (g : Gate) → Counted t c → GateColumns (t .gates) (now (kind .entry)) (now (left .entry)) (now (right .entry)) → letter ≡ kindOf g → p ≡ leftOf g → q ≡ rightOf g → Counted (addGate t g) r × GateColumns (t .gates ++ g ∷ []) (now (kind .exit)) (now (left .exit)) (now (right .exit))) ⌝ }
 {
-    let n = c.gates;
-    let at = n as usize;
+    let at = c.gates as usize;
     kind[at] = letter;
     left[at] = p;
     right[at] = q;
-    let mut r = c;
-    r.gates = n + 1;
-    r
+    with_gate(c)
 }
 
 pub fn put_rule(rule: &mut [u32; MOST_RULES], c: Counts, point: u32) -> Counts
     requires { ⌜ c .rules < mostRules ⌝ }
     ensures { λ r. ⌜ ((t : Sheet) → Counted t c → now (rule .entry) ≡ padded mostRules pointOf (t .rules) → Counted (addRule t point) r × (now (rule .exit) ≡ padded mostRules pointOf (t .rules ++ point ∷ []))) ⌝ }
 {
-    let n = c.rules;
-    let at = n as usize;
+    let at = c.rules as usize;
     rule[at] = point;
-    let mut r = c;
-    r.rules = n + 1;
-    r
+    with_rule(c)
 }
 
 pub fn put_wish(
@@ -116,12 +139,9 @@ pub fn put_wish(
     requires { ⌜ c .wishes < mostWishes ⌝ }
     ensures { λ r. ⌜ ((t : Sheet) (w : Clause) → Counted t c → WishColumns (t .wishes) (now (first .entry)) (now (second .entry)) (now (third .entry)) → x ≡ literalAt 0 w → y ≡ literalAt 1 w → z ≡ literalAt 2 w → Counted (addWish t w) r × WishColumns (t .wishes ++ w ∷ []) (now (first .exit)) (now (second .exit)) (now (third .exit))) ⌝ }
 {
-    let n = c.wishes;
-    let at = n as usize;
+    let at = c.wishes as usize;
     first[at] = x;
     second[at] = y;
     third[at] = z;
-    let mut r = c;
-    r.wishes = n + 1;
-    r
+    with_wish(c)
 }

@@ -2,7 +2,7 @@ use Prim.Native.Nat.{_<_}
 use lib.ListN.{length}
 use Rattle.scope.specs.Sheet.{mostGates}
 use Rattle.scope.specs.Tables.{kindOf, leftOf, rightOf}
-use Rattle.sheet.proofs.tables.Entries.{one-more, set-padded}
+use Rattle.sheet.proofs.tables.Entries.{set-padded}
 use borrow.Author.Needs.{needs}
 use Rattle.sheet.proofs.tables.put_gate.Statement.{statement}
 use Rattle.sheet.proofs.tables.put_gate.Tie as tie
@@ -25,11 +25,11 @@ mul-right c = search needs
 element-write-right : tie.Need-element-write-right
 element-write-right c = search needs
 
-add-r : tie.Need-add-r
-add-r c = search needs
+with-gate-requires : tie.Need-with-gate-requires
+with-gate-requires c κs = search needs
 
 returns : tie.Need-returns
-returns c = λ t g n h k p q. let b : length (t .gates) < mostGates = rw (n .gates) at (c .pre) in (record { switches = n .switches; faults = n .faults; gates = one-more (t .gates) g (n .gates); rules = n .rules; wishes = n .wishes }, record { kinds = rw (h .kinds, k, n .gates) (set-padded mostGates kindOf (t .gates) g b); lefts = rw (h .lefts, p, n .gates) (set-padded mostGates leftOf (t .gates) g b); rights = rw (h .rights, q, n .gates) (set-padded mostGates rightOf (t .gates) g b) })
+returns c = λ t g n h k p q. let b : length (t .gates) < mostGates = rw (n .gates) at (c .before .before .pre) in (c .with-gate .ensures t g n, record { kinds = rw (h .kinds, k, n .gates) (set-padded mostGates kindOf (t .gates) g b); lefts = rw (h .lefts, p, n .gates) (set-padded mostGates leftOf (t .gates) g b); rights = rw (h .rights, q, n .gates) (set-padded mostGates rightOf (t .gates) g b) })
 
 pub put-gate-spec : {M : Type 1} → statement M
 put-gate-spec =
@@ -41,5 +41,5 @@ put-gate-spec =
     element-write-left
     mul-right
     element-write-right
-    add-r
+    with-gate-requires
     returns)

@@ -2,7 +2,7 @@ use Prim.Native.Nat.{_<_}
 use lib.ListN.{length}
 use Rattle.scope.specs.Sheet.{mostRules}
 use Rattle.sheet.specs.Tables.{pointOf}
-use Rattle.sheet.proofs.tables.Entries.{one-more, set-padded}
+use Rattle.sheet.proofs.tables.Entries.{set-padded}
 use borrow.Author.Needs.{needs}
 use Rattle.sheet.proofs.tables.put_rule.Statement.{statement}
 use Rattle.sheet.proofs.tables.put_rule.Tie as tie
@@ -16,11 +16,11 @@ mul-rule c = search needs
 element-write-rule : tie.Need-element-write-rule
 element-write-rule c = search needs
 
-add-r : tie.Need-add-r
-add-r c = search needs
+with-rule-requires : tie.Need-with-rule-requires
+with-rule-requires c κs = search needs
 
 returns : tie.Need-returns
-returns c = λ t n h. let b : length (t .rules) < mostRules = rw (n .rules) at (c .pre) in (record { switches = n .switches; faults = n .faults; gates = n .gates; rules = one-more (t .rules) _ (n .rules); wishes = n .wishes }, rw (h, n .rules) (set-padded mostRules pointOf (t .rules) _ b))
+returns c = λ t n h. let b : length (t .rules) < mostRules = rw (n .rules) at (c .before .before .pre) in (c .with-rule .ensures t _ n, rw (h, n .rules) (set-padded mostRules pointOf (t .rules) _ b))
 
 pub put-rule-spec : {M : Type 1} → statement M
-put-rule-spec = tie.close (tie.spec cast-at mul-rule element-write-rule add-r returns)
+put-rule-spec = tie.close (tie.spec cast-at mul-rule element-write-rule with-rule-requires returns)

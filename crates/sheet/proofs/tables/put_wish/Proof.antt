@@ -2,7 +2,7 @@ use Prim.Native.Nat.{_<_}
 use lib.ListN.{length}
 use Rattle.scope.specs.Sheet.{mostWishes}
 use Rattle.scope.specs.Tables.{literalAt}
-use Rattle.sheet.proofs.tables.Entries.{one-more, set-padded}
+use Rattle.sheet.proofs.tables.Entries.{set-padded}
 use borrow.Author.Needs.{needs}
 use Rattle.sheet.proofs.tables.put_wish.Statement.{statement}
 use Rattle.sheet.proofs.tables.put_wish.Tie as tie
@@ -28,11 +28,11 @@ mul-third c = search needs
 element-write-third : tie.Need-element-write-third
 element-write-third c = search needs
 
-add-r : tie.Need-add-r
-add-r c = search needs
+with-wish-requires : tie.Need-with-wish-requires
+with-wish-requires c κs = search needs
 
 returns : tie.Need-returns
-returns c = λ t w n h x y z. let b : length (t .wishes) < mostWishes = rw (n .wishes) at (c .pre) in (record { switches = n .switches; faults = n .faults; gates = n .gates; rules = n .rules; wishes = one-more (t .wishes) w (n .wishes) }, record { firsts = rw (h .firsts, x, n .wishes) (set-padded mostWishes (literalAt 0) (t .wishes) w b); seconds = rw (h .seconds, y, n .wishes) (set-padded mostWishes (literalAt 1) (t .wishes) w b); thirds = rw (h .thirds, z, n .wishes) (set-padded mostWishes (literalAt 2) (t .wishes) w b) })
+returns c = λ t w n h x y z. let b : length (t .wishes) < mostWishes = rw (n .wishes) at (c .before .before .pre) in (c .with-wish .ensures t _ n, record { firsts = rw (h .firsts, x, n .wishes) (set-padded mostWishes (literalAt 0) (t .wishes) w b); seconds = rw (h .seconds, y, n .wishes) (set-padded mostWishes (literalAt 1) (t .wishes) w b); thirds = rw (h .thirds, z, n .wishes) (set-padded mostWishes (literalAt 2) (t .wishes) w b) })
 
 pub put-wish-spec : {M : Type 1} → statement M
 put-wish-spec =
@@ -45,5 +45,5 @@ put-wish-spec =
     element-write-second
     mul-third
     element-write-third
-    add-r
+    with-wish-requires
     returns)
