@@ -21,3 +21,4 @@ pub mod Walked
 pub mod TextReads
 pub mod TypedSheets
 pub mod TypedTruths
+pub mod Writing

@@ -145,7 +145,7 @@ data From (n : ℕ) (s : List ℕ) : ℕ → List Line → Type 0 where
   end : {k : ℕ} → From n s k []
   then : {k : ℕ} {l : Line} {ls : List Line} → lineAt n s k ≡ some l → From n s (suc k) ls → From n s k (l ∷ ls)
 
-length-text : (n : ℕ) (r : List Line) → All (Good n) r → length (text r) ≡ length r * lineSize n
+pub length-text : (n : ℕ) (r : List Line) → All (Good n) r → length (text r) ≡ length r * lineSize n
 unfolding text
 length-text n [] g = omega arith
 length-text n (l ∷ r) (g, h) =
@@ -286,10 +286,13 @@ ordered-names : (m j : ℕ) (gs : List Gate) → m + length gs ≤ j → Ordered
 ordered-names m j [] h o = tt
 ordered-names m j (g ∷ gs) h (p, o) = (more-names m j g (omega arith) p, ordered-names (suc m) j gs (omega arith) o)
 
+pub length-filled : (n : ℕ) (xs : List Number) → length xs ≤ n → length (filled n xs) ≡ n
+length-filled n xs h = omega (arith, length-append xs (replicate (n - length xs) (plus 0)), length-replicate (n - length xs) (plus 0))
+
 module _ (n : ℕ) (wide : 3 ≤ n) where
-  good : (c : Letter) (xs : List Number) → length xs ≤ n → Fit xs → Good n (line c (filled n xs))
+  pub good : (c : Letter) (xs : List Number) → length xs ≤ n → Fit xs → Good n (line c (filled n xs))
   good c xs h f = record {
-    count = omega (arith, length-append xs (replicate (n - length xs) (plus 0)), length-replicate (n - length xs) (plus 0));
+    count = length-filled n xs h;
     fit = all-append (λ x. fits x ≡ true) xs (replicate (n - length xs) (plus 0)) f (zeros-fit (n - length xs));
   }
 
@@ -304,23 +307,31 @@ module _ (n : ℕ) (wide : 3 ≤ n) where
   good-wish : (a : ℕ) (w : Clause) → a ≤ mostSwitches → Wish a w → Good n (wishLine n w)
   good-wish a w h (m, l) = good W w (omega arith) (all-more (λ x. Among a (x .size)) (λ x. fits x ≡ true) (λ x (p, q). literal-fits x p (omega arith)) w l)
 
-  length-body : (t : Sheet) → length (body n t) ≡ 1 + length (t .gates) + length (t .rules) + length (t .wishes)
+  pub length-body : (t : Sheet) → length (body n t) ≡ 1 + length (t .gates) + length (t .rules) + length (t .wishes)
   unfolding body
   length-body t = simp (length-append, length-map) (omega arith)
 
-  good-lines : (t : Sheet) → Valid t → All (Good n) (sheetLines n t)
+  pub good-body : (t : Sheet) → Valid t → All (Good n) (body n t)
   unfolding body
-  good-lines t v =
+  good-body t v =
       let m : points t ≤ 99999 = omega (arith, v .switches, v .faults, v .few-gates) in
-      all-append (Good n) (body n t) (endLine n (length (body n t)) ∷ [])
-      (all-append (Good n) (headLine n (t .switches) (t .faults) ∷ map (gateLine n) (t .gates) ++ map (ruleLine n) (t .rules)) (map (wishLine n) (t .wishes))
+      all-append (Good n) (headLine n (t .switches) (t .faults) ∷ map (gateLine n) (t .gates) ++ map (ruleLine n) (t .rules)) (map (wishLine n) (t .wishes))
       (all-append (Good n) (headLine n (t .switches) (t .faults) ∷ map (gateLine n) (t .gates)) (map (ruleLine n) (t .rules)) (
         good H (plus (t .switches) ∷ plus (t .faults) ∷ []) (omega arith) (plus-fits (t .switches) (omega (arith, v .switches)), (plus-fits (t .faults) (omega (arith, v .faults)), tt)),
         all-map (Good n) (Names 99999) (gateLine n) good-gate (t .gates) (ordered-names (t .switches + t .faults) 99999 (t .gates) m (v .gates)),
       )
       (all-map (Good n) (Among (points t)) (ruleLine n) (λ p. good-rule (points t) p m) (t .rules) (v .rules)))
-      (all-map (Good n) (Wish (t .switches)) (wishLine n) (λ w. good-wish (t .switches) w (v .switches)) (t .wishes) (v .wishes)))
-      (good Z (plus (length (body n t)) ∷ []) (omega arith) (plus-fits (length (body n t)) (omega (arith, length-body t, v .few-gates, v .few-rules, v .few-wishes)), tt), tt)
+      (all-map (Good n) (Wish (t .switches)) (wishLine n) (λ w. good-wish (t .switches) w (v .switches)) (t .wishes) (v .wishes))
+
+  -- H, and as many others as there may be
+  pub few-body : (t : Sheet) → Valid t → length (body n t) ≤ 529
+  few-body t v = omega (arith, length-body t, v .few-gates, v .few-rules, v .few-wishes)
+
+  pub end-good : (k : ℕ) → k ≤ 99999 → Good n (endLine n k)
+  end-good k h = good Z (plus k ∷ []) (omega arith) (plus-fits k h, tt)
+
+  pub good-lines : (t : Sheet) → Valid t → All (Good n) (sheetLines n t)
+  good-lines t v = all-append (Good n) (body n t) (endLine n (length (body n t)) ∷ []) (good-body t v) (end-good (length (body n t)) (omega (arith, few-body t v)), tt)
 
 -- ---- the whole sheet
 

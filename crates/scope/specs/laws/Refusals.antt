@@ -39,6 +39,10 @@ first-some here = refl
 first-some (later f) = first-some f
 
 -- ---- line by line
+
+pub not-both : {t : Sheet} {c place column : ℕ} → accepted t ≢ refused c place column
+not-both e = let z : _≡_ {A = ℕ} 0 1 = cc in omega arith
+
 module _ (n : ℕ) (s : List ℕ) where
   -- a first line that does not pass, or none below m
   data Search (m : ℕ) : Type 0 where
@@ -105,9 +109,6 @@ module _ (n : ℕ) (s : List ℕ) where
           lines : Search (lineCount n s) → Told
           lines (all p) = fine record { size = e; lines = p }
           lines (stop c k h p f) = turned c (suc k) (columnAt n s k) (line k e h p f (column-of k h))
-
-  not-both : {t : Sheet} {c place column : ℕ} → accepted t ≢ refused c place column
-  not-both e = let z : _≡_ {A = ℕ} 0 1 = cc in omega arith
 
   pub refused-iff : (c place column : ℕ) → (read n s ≡ refused c place column) ↔ Cause n s c place column
   refused-iff c place column = (λ e. go told e, cause-refuses)

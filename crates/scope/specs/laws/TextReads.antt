@@ -22,20 +22,20 @@ use Rattle.scope.specs.laws.Walked.{legal-walks, stuck-front, starts-wal
 
 -- ---- the first line at fault
 
-lines-met : (rss : List (List Row)) → All Met rss → (k : ℕ) (more : Read) → firstLine k rss more ≡ more
+pub lines-met : (rss : List (List Row)) → All Met rss → (k : ℕ) (more : Read) → firstLine k rss more ≡ more
 unfolding firstLine
 lines-met [] m k more = refl
 lines-met (rs ∷ rss) (m, ms) k more = rw (met-none rs m) (lines-met rss ms (suc k) more)
 
 -- j lines stand before
-line-refused : {c k : ℕ} {rss : List (List Row)} → FirstLine c k rss → (j : ℕ) (more : Read) → firstLine (suc j) rss more ≡ refused c (j + k) 0
+pub line-refused : {c k : ℕ} {rss : List (List Row)} → FirstLine c k rss → (j : ℕ) (more : Read) → firstLine (suc j) rss more ≡ refused c (j + k) 0
 unfolding firstLine
 line-refused {c} (here f) j more = rw (first-some f) (ap (λ n. refused c n 0) (omega arith))
 line-refused {c} (later {k} {rs} m f) j more = rw (met-none rs m) (line-refused f (suc j) more ∙ ap (λ n. refused c n 0) (omega arith))
 
 -- by whether there is such a line
 module _ (P : Read → Type 0) where
-  by-lines : (j : ℕ) (rss : List (List Row)) (more : Read) → (All Met rss → P more) → ((c k : ℕ) → FirstLine c k rss → P (refused c (j + k) 0)) → P (firstLine (suc j) rss more)
+  pub by-lines : (j : ℕ) (rss : List (List Row)) (more : Read) → (All Met rss → P more) → ((c k : ℕ) → FirstLine c k rss → P (refused c (j + k) 0)) → P (firstLine (suc j) rss more)
   unfolding firstLine
   by-lines j [] more f g = f tt
   by-lines j (rs ∷ rss) more f g = go (firstFault rs) refl (by-lines (suc j) rss more)
