@@ -68,6 +68,12 @@ sheetFrom t (l ∷ ls) = sheetFrom (make t (l .letter) (l .fields)) ls
 
 -- ---- what the tables say
 
+-- the numbers by which tables are turned down; 4 is of line 1
+pub data TablesRefusal : (number place column : ℕ) → Type 0 where
+  outOfRange : TablesRefusal 4 1 0
+  tooMany : {k : ℕ} → TablesRefusal 5 (suc k) 0
+  wrongField : {k : ℕ} → TablesRefusal 6 (suc k) 0
+
 module _ (n : ℕ) where
   -- 4: a or f outside its range; 5: gate 401, rule 65 or wish 65; 6: point or literal not allowed, or no such kind of gate
   abbrev pub tableRows : Tables → List (List Row)

@@ -22,3 +22,5 @@ pub mod TextReads
 pub mod TypedSheets
 pub mod TypedTruths
 pub mod Writing
+pub mod Held
+pub mod TableReads

@@ -141,7 +141,7 @@ pub record Good (n : ℕ) (l : Line) : Type 0 where
   pub fit : Fit (l .fields)
 
 -- the lines of s from line k on
-data From (n : ℕ) (s : List ℕ) : ℕ → List Line → Type 0 where
+pub data From (n : ℕ) (s : List ℕ) : ℕ → List Line → Type 0 where
   end : {k : ℕ} → From n s k []
   then : {k : ℕ} {l : Line} {ls : List Line} → lineAt n s k ≡ some l → From n s (suc k) ls → From n s k (l ∷ ls)
 
@@ -156,7 +156,7 @@ pub all-append : {X : Type 0} (P : X → Type 0) (r s : List X) → All P r → 
 all-append P [] s g h = h
 all-append P (x ∷ r) s (p, g) h = (p, all-append P r s g h)
 
-from-text : (n : ℕ) (s : List ℕ) (ls pre : List Line) → s ≡ text (pre ++ ls) → All (Good n) pre → All (Good n) ls → From n s (length pre) ls
+pub from-text : (n : ℕ) (s : List ℕ) (ls pre : List Line) → s ≡ text (pre ++ ls) → All (Good n) pre → All (Good n) ls → From n s (length pre) ls
 unfolding lineAt text
 from-text n s [] pre e g h = end
 from-text n s (l ∷ ls) pre e g (h, i) =
@@ -359,7 +359,7 @@ module _ (n : ℕ) (wide : 3 ≤ n) (t : Sheet) (v : Valid t) (s : List ℕ) (pr
   size : length s ≡ lineTotal * lineSize n
   size = ap length printed ∙ length-text n (sheetLines n t) (good-lines n wide t v) ∙ ap (λ m. m * lineSize n) total
 
-  count : lineCount n s ≡ lineTotal
+  pub count : lineCount n s ≡ lineTotal
   count = ap (λ m. m / lineSize n) size ∙ mul-div-cancel lineTotal (omega arith)
 
   length-ok : lengthOk n (length s) ≡ true

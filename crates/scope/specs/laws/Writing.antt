@@ -29,7 +29,7 @@ unfolding entries
 length-entries f zero = refl
 length-entries f (suc k) = length-snoc (entries f k) (f k) ∙ ap suc (length-entries f k)
 
-all-entries : {A : Type 0} (P : A → Type 0) (f : ℕ → A) → ((i : ℕ) → P (f i)) → (k : ℕ) → All P (entries f k)
+pub all-entries : {A : Type 0} (P : A → Type 0) (f : ℕ → A) → ((i : ℕ) → P (f i)) → (k : ℕ) → All P (entries f k)
 unfolding entries
 all-entries P f h zero = tt
 all-entries P f h (suc k) = all-snoc P (entries f k) (f k) (all-entries P f h k) (h k)
@@ -40,7 +40,7 @@ length-lines n u = simp (length-append, length-entries) (omega arith)
 
 -- by which kind of gate b is
 module _ (P : Line → Type 0) (n b : ℕ) (x y : Number) where
-  by-kind : (b ≡ code "N" → P (line N (filled n (x ∷ y ∷ [])))) → (b ≡ code "A" → P (line A (filled n (x ∷ y ∷ [])))) → (b ≡ code "O" → P (line O (filled n (x ∷ y ∷ [])))) → P (line N (filled n (nowhere ∷ []))) → P (kindLine n b x y)
+  pub by-kind : (b ≡ code "N" → P (line N (filled n (x ∷ y ∷ [])))) → (b ≡ code "A" → P (line A (filled n (x ∷ y ∷ [])))) → (b ≡ code "O" → P (line O (filled n (x ∷ y ∷ [])))) → P (line N (filled n (nowhere ∷ []))) → P (kindLine n b x y)
   by-kind p q r s = go (eqb b (code "N")) (eqb b (code "A")) (eqb b (code "O")) refl refl refl
     where
       go : (i j k : Bool) → eqb b (code "N") ≡ i → eqb b (code "A") ≡ j → eqb b (code "O") ≡ k
@@ -82,7 +82,7 @@ module _ (n : ℕ) (wide : 3 ≤ n) where
       go (more a w e) rest = let (b, x) = rest w in (b ∙ ap (λ r. r ++ ls) e ∙ append-assoc (body n t) (l ∷ []) ls, x)
       go (done a e f) rest = clash a refl
 
-  tables-said : (u : Tables) → All Met (tableRows n u) → (body n (sheetFrom (started 0 0) (tableLines n u)) ≡ tableLines n u) × Valid (sheetFrom (started 0 0) (tableLines n u))
+  pub tables-said : (u : Tables) → All Met (tableRows n u) → (body n (sheetFrom (started 0 0) (tableLines n u)) ≡ tableLines n u) × Valid (sheetFrom (started 0 0) (tableLines n u))
   unfolding tableLines rowsFrom sheetFrom
   tables-said u (m, ms) =
       let xs : List Number = filled n (plus (u .switches) ∷ plus (u .faults) ∷ []) in
