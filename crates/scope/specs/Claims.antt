@@ -14,7 +14,10 @@ use Rattle.scope.specs.Meaning.{all, any, plans, patterns, literalTrue, 
 use Rattle.scope.specs.Typed.{Typed, Legal, formulaTrue, sheetOf, lineRows}
 use Rattle.scope.specs.Texts.{TextRead}
 use Rattle.scope.specs.Parsing.{readText}
-use Rattle.scope.specs.Jobs.{task, answerOf, shortOf, ratingOf}
+use Rattle.scope.specs.Tables.{Tables, Holds}
+use Rattle.scope.specs.Writing.{TablesRefusal, TablesRead, readTables, written, write}
+use Rattle.scope.specs.Writing as writing
+use Rattle.scope.specs.Jobs.{over, task, answerOf, shortOf, ratingOf}
 use Rattle.scope.specs.Demands.{list, Demand2, Demand3, ShortRun, Rates}
 use Rattle.scope.specs.Program.{outputRows}
 use Rattle.scope.specs.laws.Fields as fields
@@ -34,6 +37,7 @@ use Rattle.scope.specs.laws.TextReads as textReads
 use Rattle.scope.specs.laws.Walked as walked
 use Rattle.scope.specs.laws.TypedSheets as typedSheets
 use Rattle.scope.specs.laws.TypedTruths as typedTruths
+use Rattle.scope.specs.laws.TableReads as tableReads
 
 -- ---- reading, for lines of n fields
 
@@ -128,6 +132,30 @@ passes-as-written v s l m = typedTruths.passes-written v (typedSheets.rules-on-s
 -- each wish is kept exactly if one of its literals is true, as it is written
 pub wishes-as-written : (v : Typed) (plan : ℕ) → map (kept (sheetOf v) plan) (sheetOf v .wishes) ≡ map (λ w. any (literalTrue (switchOn (sheetOf v) plan)) w) (v .wishes)
 wishes-as-written = typedTruths.wishes-written
+
+-- ---- writing
+
+-- what is read from tables is what TablesRead says: the valid sheet that they hold, or their first line at fault
+pub tables-read : (n : ℕ) → 3 ≤ n → (u : Tables) (r : Read) → (readTables n u ≡ r) ↔ TablesRead n u r
+tables-read = tableReads.tables-iff
+
+-- they are refused by 4, 5 or 6, and 4 names line 1
+pub tables-refusal : (n : ℕ) (u : Tables) {c place column : ℕ} → TablesRead n u (refused c place column) → TablesRefusal c place column
+tables-refusal = tableReads.refusal-number
+
+-- reading a written sheet gives those tables, up to their counts
+pub written-read : (n : ℕ) → 3 ≤ n → (u : Tables) (out : List ℕ) → write n u out .number ≡ 0 → (t : Sheet) × Holds u t × (read n (take (write n u out .length) (write n u out .buffer)) ≡ accepted t)
+unfolding write
+written-read n wide u out e =
+    let (t, h, v, s) = tableReads.written-sheet n u out (tables-read n wide u (readTables n u) .0 refl) e in
+    (t, h, sheet-read n wide (take (write n u out .length) (write n u out .buffer)) t .1 (s, v))
+
+-- and writing the tables of an accepted sheet, where there is room, gives that sheet, byte for byte
+pub read-written : (n : ℕ) → 3 ≤ n → (s : List ℕ) (t : Sheet) → read n s ≡ accepted t → (u : Tables) → Holds u t → (out : List ℕ) → length s ≤ length out → write n u out ≡ written 0 0 0 (length s) (over s out)
+unfolding write
+read-written n wide s t e u h out room =
+    let (b, v) = sheet-read n wide s t .0 e in
+    rw (tables-read n wide u (accepted t) .1 (writing.accepted h v), b) (tableReads.written-in n t out (rw b at room))
 
 -- ---- demands 2 and 3
 

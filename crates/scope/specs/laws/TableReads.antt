@@ -1,24 +1,30 @@
--- Tables are read as what TablesRead says, and nothing else. Assumes nothing.
+-- Tables are read as what TablesRead says, and nothing else, and written if there is room. Assumes nothing.
 use Prim.Native.Nat.{ℕ, suc, _+_, _≤_, _<_}
 use native.Mathlib.Nat.{add-zero, zero-add}
+use native.Mathlib.Numerals.{add-one}
 use native.Mathlib.Omega.{arith}
-use mathlib.Core.Bool.{false}
-use mathlib.Core.List.{List, [], _∷_, _++_}
-use mathlib.Core.Logic.{_↔_}
+use mathlib.Core.Bool.{Bool, true, false, cond}
+use mathlib.Core.List.{List, [], _∷_, _++_, append-assoc, append-nil}
+use mathlib.Core.Logic.{_↔_, _≢_}
 use mathlib.Core.Path.{_≡_, refl, sym, ap, subst, _∙_}
-use lib.Dec.{eqb}
-use lib.ListN.{length}
-use borrow.Author.Tests.{ne-eqb}
-use Rattle.scope.specs.Sheet.{Sheet, Line, endLine, body, sheetLines, sheetBytes, All, Valid}
-use Rattle.scope.specs.Reading.{rows, started, make, add, Read, accepted, refused, lineCount, testsAt}
-use Rattle.scope.specs.Causes.{Met, before, Passed}
-use Rattle.scope.specs.Tables.{Tables}
-use Rattle.scope.specs.Writing.{tableLines, rowsFrom, sheetFrom, tableRows, TablesRead, atFault, readTables}
+use lib.Dec.{eqb, leb}
+use lib.ListN.{length, getD, take, drop}
+use lib.Seq.{take-append-seam}
+use borrow.Author.Tests.{ne-eqb, le-leb}
+use Rattle.scope.specs.Sheet.{plus, Sheet, Line, endLine, body, sheetLines, sheetBytes, All, Valid}
+use Rattle.scope.specs.Reading.{Row, gateRows, rows, started, make, add, Read, accepted, refused, lineCount, testsAt}
+use Rattle.scope.specs.Causes.{Met, First, later, before, Passed}
+use Rattle.scope.specs.Texts.{FirstLine}
+use Rattle.scope.specs.Texts as texts
+use Rattle.scope.specs.Jobs.{over}
+use Rattle.scope.specs.Tables.{Tables, Holds}
+use Rattle.scope.specs.Writing.{word, entries, gateAt, ruleAt, wishAt, tableLines, rowsFrom, sheetFrom, TablesRefusal, outOfRange, tooMany, wrongField, tableRows, TablesRead, atFault, readTables, written, writtenOf}
 use Rattle.scope.specs.Writing as writing
-use Rattle.scope.specs.laws.Refusals.{accepted-iff}
+use Rattle.scope.specs.laws.Tests.{clash}
+use Rattle.scope.specs.laws.Refusals.{accepted-iff, first-in}
 use Rattle.scope.specs.laws.Inverse.{From, then, from-text, good-lines, length-body, count, read-iff}
 use Rattle.scope.specs.laws.TextReads.{lines-met, line-refused, by-lines}
-use Rattle.scope.specs.laws.Writing.{tables-said}
+use Rattle.scope.specs.laws.Writing.{all-entries, by-kind, tables-said}
 use Rattle.scope.specs.laws.Held.{lines-hold, holds-lines}
 
 -- ---- the lines of a valid sheet pass, since it is accepted when they are read
@@ -59,3 +65,95 @@ module _ (n : ℕ) (wide : 3 ≤ n) where
 
   pub tables-iff : (u : Tables) (r : Read) → (readTables n u ≡ r) ↔ TablesRead n u r
   tables-iff u r = (λ e. subst (TablesRead n u) e (tables-told u), told-tables u)
+
+-- ---- which numbers: the lines stand in order, so 3 and 7 are none of them
+
+past-three : {k c : ℕ} {a b d : Bool} → a ≡ true → First c ((3, a) ∷ (5, b) ∷ (6, d) ∷ []) → TablesRefusal c (suc k) 0
+past-three {k} {c} {a} {b} {d} e f = go a e f
+  where
+    go : (a : Bool) → a ≡ true → First c ((3, a) ∷ (5, b) ∷ (6, d) ∷ []) → TablesRefusal c (suc k) 0
+    go true e (later f) = first-in (λ c. TablesRefusal c (suc k) 0) ((5, b) ∷ (6, d) ∷ []) (tooMany, (wrongField, tt)) f
+    go false e f = clash e refl
+
+past-first : {c : ℕ} {b d : Bool} → First c ((3, true) ∷ (4, b) ∷ (6, d) ∷ []) → TablesRefusal c 1 0
+past-first {b} {d} (later f) = first-in (λ c. TablesRefusal c 1 0) ((4, b) ∷ (6, d) ∷ []) (outOfRange, (wrongField, tt)) f
+
+-- k lines stand before
+abbrev Numbered : ℕ → List (List Row) → Type 0
+Numbered k [] = Unit {0}
+Numbered k (rs ∷ rss) = ((c : ℕ) → First c rs → TablesRefusal c (suc k) 0) × Numbered (suc k) rss
+
+numbered-line : {c j : ℕ} {rss : List (List Row)} (k : ℕ) → FirstLine c j rss → Numbered k rss → TablesRefusal c (k + j) 0
+numbered-line {c} k (texts.here f) (h, hs) = subst (λ m. TablesRefusal c m 0) (sym (add-one k)) (h c f)
+numbered-line {c} k (texts.later m f) (h, hs) = subst (λ m. TablesRefusal c m 0) (omega arith) (numbered-line (suc k) f hs)
+
+-- after lines of which Q holds a line is refused by 5 or 6 only, and Q holds with it too
+abbrev Keeps : (Sheet → Type 0) → Line → Type 0
+Keeps Q l = (t : Sheet) → Q t → ((k c : ℕ) → First c (rows t (suc k) false (l .letter) (l .fields)) → TablesRefusal c (suc (suc k)) 0) × Q (make t (l .letter) (l .fields))
+
+numbered-more : (Q : Sheet → Type 0) (more : List Line) → ((t : Sheet) → Q t → (k : ℕ) → Numbered (suc k) (rowsFrom t (suc k) more)) → (ls : List Line) → All (Keeps Q) ls → (t : Sheet) → Q t → (k : ℕ) → Numbered (suc k) (rowsFrom t (suc k) (ls ++ more))
+unfolding rowsFrom
+numbered-more Q more after [] a t q k = after t q k
+numbered-more Q more after (l ∷ ls) (h, hs) t q k = let (p, r) = h t q in (p k, numbered-more Q more after ls hs (make t (l .letter) (l .fields)) r (suc k))
+
+module _ (n : ℕ) (u : Tables) where
+  abbrev NoRule : Sheet → Type 0
+  NoRule t = (t .rules ≡ []) × (t .wishes ≡ [])
+
+  abbrev NoWish : Sheet → Type 0
+  NoWish t = t .wishes ≡ []
+
+  gate-told : (t : Sheet) {fields : Bool} → NoRule t → (k c : ℕ) → First c (gateRows t (suc k) false fields) → TablesRefusal c (suc (suc k)) 0
+  gate-told t (r, w) k c = past-three (rw (ne-eqb (suc k) 0 (λ e. omega arith), r, w))
+
+  gate-keeps : (i : ℕ) → Keeps NoRule (gateAt n u i)
+  unfolding rows make
+  gate-keeps i = by-kind (Keeps NoRule) n (getD (u .kind) i 0) (word plus (u .left) i) (word plus (u .right) i) (λ e t q. (gate-told t q, q)) (λ e t q. (gate-told t q, q)) (λ e t q. (gate-told t q, q)) (λ t q. (gate-told t q, q))
+
+  rule-keeps : (i : ℕ) → Keeps NoWish (ruleAt n u i)
+  unfolding rows make
+  rule-keeps i t w = (λ k c. past-three (rw (ne-eqb (suc k) 0 (λ e. omega arith), w)), w)
+
+  wish-keeps : (i : ℕ) → Keeps (λ t. Unit {0}) (wishAt n u i)
+  unfolding rows make
+  wish-keeps i t q = (λ k c. past-three (rw (ne-eqb (suc k) 0 (λ e. omega arith))), tt)
+
+  tables-numbered : Numbered 0 (tableRows n u)
+  unfolding tableLines rowsFrom rows make
+  tables-numbered = (λ c. past-first, subst (λ ls. Numbered 1 (rowsFrom (started (u .switches) (u .faults)) 1 ls)) (sym (append-assoc (entries (gateAt n u) (u .gates)) (entries (ruleAt n u) (u .rules)) (entries (wishAt n u) (u .wishes)))) (gates (started (u .switches) (u .faults)) (refl, refl) 0))
+    where
+      wishes : (t : Sheet) (k : ℕ) → Numbered (suc k) (rowsFrom t (suc k) (entries (wishAt n u) (u .wishes)))
+      wishes t k = rw append-nil at (numbered-more (λ t. Unit {0}) [] (λ t q k. tt) (entries (wishAt n u) (u .wishes)) (all-entries (Keeps (λ t. Unit {0})) (wishAt n u) wish-keeps (u .wishes)) t tt k)
+
+      rules : (t : Sheet) → NoWish t → (k : ℕ) → Numbered (suc k) (rowsFrom t (suc k) (entries (ruleAt n u) (u .rules) ++ entries (wishAt n u) (u .wishes)))
+      rules = numbered-more NoWish (entries (wishAt n u) (u .wishes)) (λ t w. wishes t) (entries (ruleAt n u) (u .rules)) (all-entries (Keeps NoWish) (ruleAt n u) rule-keeps (u .rules))
+
+      gates : (t : Sheet) → NoRule t → (k : ℕ) → Numbered (suc k) (rowsFrom t (suc k) (entries (gateAt n u) (u .gates) ++ (entries (ruleAt n u) (u .rules) ++ entries (wishAt n u) (u .wishes))))
+      gates = numbered-more NoRule (entries (ruleAt n u) (u .rules) ++ entries (wishAt n u) (u .wishes)) (λ t (r, w). rules t w) (entries (gateAt n u) (u .gates)) (all-entries (Keeps NoRule) (gateAt n u) gate-keeps (u .gates))
+
+  pub refusal-number : {c place column : ℕ} → TablesRead n u (refused c place column) → TablesRefusal c place column
+  refusal-number (atFault f) = rw zero-add at (numbered-line 0 f tables-numbered)
+
+-- ---- writing, by whether there is room
+
+pub written-in : (n : ℕ) (t : Sheet) (out : List ℕ) → length (sheetBytes n t) ≤ length out → writtenOf n (accepted t) out ≡ written 0 0 0 (length (sheetBytes n t)) (over (sheetBytes n t) out)
+written-in n t out h = rw (le-leb (length (sheetBytes n t)) (length out) h)
+
+written-front : (n : ℕ) (t : Sheet) (out : List ℕ) → writtenOf n (accepted t) out .number ≡ 0 → take (writtenOf n (accepted t) out .length) (writtenOf n (accepted t) out .buffer) ≡ sheetBytes n t
+written-front n t out = go (leb (length s) (length out))
+  where
+    s : List ℕ
+    s = sheetBytes n t
+
+    go : (room : Bool) → cond room (written 0 0 0 (length s) (over s out)) (written 13 0 0 0 out) .number ≡ 0 → take (cond room (written 0 0 0 (length s) (over s out)) (written 13 0 0 0 out) .length) (cond room (written 0 0 0 (length s) (over s out)) (written 13 0 0 0 out) .buffer) ≡ s
+    go true e = take-append-seam s (drop (length s) out)
+    go false e = absurd (omega arith)
+
+refusal-there : {c place column : ℕ} → TablesRefusal c place column → c ≢ 0
+refusal-there outOfRange e = omega arith
+refusal-there tooMany e = omega arith
+refusal-there wrongField e = omega arith
+
+pub written-sheet : (n : ℕ) (u : Tables) (out : List ℕ) {r : Read} → TablesRead n u r → writtenOf n r out .number ≡ 0 → (t : Sheet) × Holds u t × Valid t × (take (writtenOf n r out .length) (writtenOf n r out .buffer) ≡ sheetBytes n t)
+written-sheet n u out (atFault f) e = absurd (refusal-there (refusal-number n u (atFault f)) e)
+written-sheet n u out (writing.accepted {t} h v) e = (t, h, v, written-front n t out e)
