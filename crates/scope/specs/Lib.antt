@@ -20,5 +20,6 @@ pub mod Program
 pub mod Claims
 pub mod Examples
 pub mod TypedExamples
+pub mod WritingExamples
 -- proved of them
 pub mod laws

@@ -5,7 +5,7 @@ use mathlib.Core.Bool.{true, false, cond}
 use mathlib.Core.List.{List, [], _∷_, _++_}
 use lib.Dec.{eqb, leb, ltb}
 use lib.ListN.{length, getD}
-use Rattle.scope.specs.Sheet.{Number, number, plus, Sheet, Letter, N, A, O, R, W, Line, line, filled, headLine, sheetBytes, Valid}
+use Rattle.scope.specs.Sheet.{Number, number, plus, Sheet, N, A, O, R, W, Line, line, filled, headLine, sheetBytes, Valid}
 use Rattle.scope.specs.Reading.{Row, rows, started, make, Read}
 use Rattle.scope.specs.Reading as reading
 use Rattle.scope.specs.Texts.{FirstLine}
