@@ -1,16 +1,17 @@
 -- Tables are read as what TablesRead says, and nothing else, and written if there is room. Assumes nothing.
 use Prim.Native.Nat.{ℕ, suc, _+_, _≤_, _<_}
+use native.Mathlib.Decide.{decLe}
 use native.Mathlib.Nat.{add-zero, zero-add}
 use native.Mathlib.Numerals.{add-one}
 use native.Mathlib.Omega.{arith}
-use mathlib.Core.Bool.{Bool, true, false, cond}
+use mathlib.Core.Bool.{Bool, true, false}
 use mathlib.Core.List.{List, [], _∷_, _++_, append-assoc, append-nil}
 use mathlib.Core.Logic.{_↔_, _≢_}
 use mathlib.Core.Path.{_≡_, refl, sym, ap, subst, _∙_}
-use lib.Dec.{eqb, leb}
+use lib.Dec.{eqb}
 use lib.ListN.{length, getD, take, drop}
 use lib.Seq.{take-append-seam}
-use borrow.Author.Tests.{ne-eqb, le-leb}
+use borrow.Author.Tests.{ne-eqb, le-leb, lt-leb}
 use Rattle.scope.specs.Sheet.{plus, Sheet, Line, endLine, body, sheetLines, sheetBytes, All, Valid}
 use Rattle.scope.specs.Reading.{Row, gateRows, rows, started, make, add, Read, accepted, refused, lineCount, testsAt}
 use Rattle.scope.specs.Causes.{Met, First, later, before, Passed}
@@ -78,7 +79,7 @@ past-three {k} {c} {a} {b} {d} e f = go a e f
 past-first : {c : ℕ} {b d : Bool} → First c ((3, true) ∷ (4, b) ∷ (6, d) ∷ []) → TablesRefusal c 1 0
 past-first {b} {d} (later f) = first-in (λ c. TablesRefusal c 1 0) ((4, b) ∷ (6, d) ∷ []) (outOfRange, (wrongField, tt)) f
 
--- k lines stand before
+-- each of these lines, k lines after the first, is refused by 4, 5 or 6 only
 abbrev Numbered : ℕ → List (List Row) → Type 0
 Numbered k [] = Unit {0}
 Numbered k (rs ∷ rss) = ((c : ℕ) → First c rs → TablesRefusal c (suc k) 0) × Numbered (suc k) rss
@@ -140,14 +141,11 @@ pub written-in : (n : ℕ) (t : Sheet) (out : List ℕ) → length (sheetBytes n
 written-in n t out h = rw (le-leb (length (sheetBytes n t)) (length out) h)
 
 written-front : (n : ℕ) (t : Sheet) (out : List ℕ) → writtenOf n (accepted t) out .number ≡ 0 → take (writtenOf n (accepted t) out .length) (writtenOf n (accepted t) out .buffer) ≡ sheetBytes n t
-written-front n t out = go (leb (length s) (length out))
+written-front n t out e = go (decLe (length (sheetBytes n t)) (length out))
   where
-    s : List ℕ
-    s = sheetBytes n t
-
-    go : (room : Bool) → cond room (written 0 0 0 (length s) (over s out)) (written 13 0 0 0 out) .number ≡ 0 → take (cond room (written 0 0 0 (length s) (over s out)) (written 13 0 0 0 out) .length) (cond room (written 0 0 0 (length s) (over s out)) (written 13 0 0 0 out) .buffer) ≡ s
-    go true e = take-append-seam s (drop (length s) out)
-    go false e = absurd (omega arith)
+    go : Dec (length (sheetBytes n t) ≤ length out) → take (writtenOf n (accepted t) out .length) (writtenOf n (accepted t) out .buffer) ≡ sheetBytes n t
+    go (yes h) = rw (written-in n t out h) (take-append-seam (sheetBytes n t) (drop (length (sheetBytes n t)) out))
+    go (no h) = let f : writtenOf n (accepted t) out .number ≡ 13 = rw (lt-leb (length (sheetBytes n t)) (length out) (omega arith)) in absurd (omega arith)
 
 refusal-there : {c place column : ℕ} → TablesRefusal c place column → c ≢ 0
 refusal-there outOfRange e = omega arith
