@@ -1,2 +1,8 @@
+-- to believe
+pub mod Lent
+-- steps of the code, which no promise of an exported call names
 pub mod Put
 pub mod Fields
+pub mod Entries
+-- proved, for the layers above
+pub mod laws

@@ -25,7 +25,7 @@ unfolding text
 text-append [] s = refl
 text-append (l ∷ r) s = rw (text-append r s) (sym (append-assoc (lineBytes l) (text r) (text s)))
 
-text-snoc : (r : List Line) (l : Line) → text (r ++ l ∷ []) ≡ text r ++ lineBytes l
+pub text-snoc : (r : List Line) (l : Line) → text (r ++ l ∷ []) ≡ text r ++ lineBytes l
 unfolding text
 text-snoc r l = text-append r (l ∷ []) ∙ ap (λ m. text r ++ m) (append-nil (lineBytes l))
 
