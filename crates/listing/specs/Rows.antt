@@ -1,101 +1,34 @@
--- A row's bytes, column by column, and bytes put into a buffer. Assumes nothing.
-use Prim.Native.Nat.{ℕ, zero, suc, _+_, _-_, _*_, _/_, _%_, _^_, _≤_, _<_}
-use Prim.Native.Char.{code}
-use native.Mathlib.Nat.{pow-suc, sub-zero, add-zero, add-suc, suc-add}
+-- Rows put into a buffer, one after another. Assumes nothing.
+use Prim.Native.Nat.{ℕ, suc, _+_, _*_, _≤_, _<_}
+use native.Mathlib.Nat.{add-zero, zero-add, add-suc, suc-add}
 use native.Mathlib.Numerals.{add-one}
 use native.Mathlib.Omega.{arith}
-use mathlib.Core.Bool.{cond}
 use mathlib.Core.List.{List, [], _∷_, _++_, append-assoc, append-nil}
-use mathlib.Core.Logic.{_≢_}
 use mathlib.Core.Path.{_≡_, refl, sym, ap, ap₂, _∙_}
-use lib.Dec.{eqb}
-use lib.ListN.{length, getD, take, drop, replicate, length-append, take-append-drop}
-use lib.Seq.{length-take-le, take-at, drop-at, drop-drop, take-length, take-suc, paste}
-use borrow.Author.Tests.{ne-eqb}
-use Rattle.scope.specs.Sheet.{plus, fieldSize, digit, decimal, justified, field, fieldsBytes}
+use lib.ListN.{length, getD, take, drop, length-append}
+use lib.Seq.{length-take-le, take-length, take-suc}
+use Rattle.scope.specs.Sheet.{plus, fieldsBytes}
+use Rattle.scope.specs.Jobs.{over}
 use Rattle.scope.specs.Program.{Row, rowsBytes, each}
-use Rattle.scope.specs.laws.Fields.{length-snoc, by-digits}
+use Rattle.scope.specs.laws.Inverse.{plus-fits}
+use Rattle.scope.specs.laws.Lines.{Fit, length-fields}
+use Rattle.sheet.specs.Columns.{numberFrom}
+use Rattle.sheet.specs.Lines.{numbersFrom}
+use Rattle.sheet.specs.declared.field.Number.{Number}
+use Rattle.writer.specs.Put.{put, put-nothing, put-more}
 
--- ---- a number that is not below 0, from its last column to its first
+-- ---- the numbers of a row
 
--- the column of a digit, where n is what stands up to it: a space if that is 0
-unfoldable pub column : ℕ → ℕ
-column n = cond (eqb n 0) (code " ") (digit (n % 10))
+pub row-fits : (x y z : ℕ) → x < 100000 → y < 100000 → z < 100000 → Fit (plus x ∷ plus y ∷ plus z ∷ [])
+row-fits x y z p q r = (plus-fits x (omega arith), (plus-fits y (omega arith), (plus-fits z (omega arith), tt)))
 
--- w columns up to the one of n
-abbrev columns : ℕ → ℕ → List ℕ
-columns zero n = []
-columns (suc w) n = columns w (n / 10) ++ column n ∷ []
+pub row-size : (c x y z : ℕ) → x < 100000 → y < 100000 → z < 100000 → length (c ∷ fieldsBytes (plus x ∷ plus y ∷ plus z ∷ [])) ≡ 17
+row-size c x y z p q r = ap suc (length-fields (plus x ∷ plus y ∷ plus z ∷ []) (row-fits x y z p q r))
 
--- no digit is left
-spaces : (w : ℕ) → columns w 0 ≡ replicate w (code " ")
-unfolding column
-spaces zero = refl
-spaces (suc w) = ap (λ s. s ++ code " " ∷ []) (spaces w) ∙ snoc w
-  where
-    snoc : (w : ℕ) → replicate w (code " ") ++ code " " ∷ [] ≡ code " " ∷ replicate w (code " ")
-    snoc zero = refl
-    snoc (suc w) = ap (λ s. code " " ∷ s) (snoc w)
-
--- one more column
-justified-snoc : (w : ℕ) (s : List ℕ) (b : ℕ) → justified (suc w) (s ++ b ∷ []) ≡ justified w s ++ b ∷ []
-justified-snoc w s b =
-    let e : suc w - length (s ++ b ∷ []) ≡ w - length s = omega (arith, length-snoc s b) in
-    ap (λ m. replicate m (code " ") ++ (s ++ b ∷ [])) e ∙ sym (append-assoc (replicate (w - length s) (code " ")) s (b ∷ []))
-
--- digits that fill their columns from the right
-columns-decimal : (w n : ℕ) → n ≢ 0 → n < 10 ^ w → columns w n ≡ justified w (decimal w n)
-unfolding column
-columns-decimal zero n z h = absurd (omega arith)
-columns-decimal (suc w) n z h = by-digits (λ s. columns (suc w) n ≡ justified (suc w) s) w n
-    (λ l.
-    let e : n / 10 ≡ 0 = omega arith in
-    let m : n % 10 ≡ n = omega arith in
-    rw (e, ne-eqb n 0 z, m) (ap (λ s. s ++ digit n ∷ []) (spaces w ∙ sym (append-nil (replicate w (code " "))) ∙ ap (λ k. replicate k (code " ") ++ []) (sym (sub-zero w))) ∙ sym (justified-snoc w [] (digit n))))
-    (λ l. rw (ne-eqb n 0 z) (ap (λ s. s ++ digit (n % 10) ∷ []) (columns-decimal w (n / 10) (λ e. omega arith) (omega (arith, pow-suc 10 w))) ∙ sym (justified-snoc w (decimal w (n / 10)) (digit (n % 10)))))
-
-pub field-columns : (n : ℕ) → n < 100000 → field (plus n) ≡ column (n / 10 / 10 / 10 / 10) ∷ column (n / 10 / 10 / 10) ∷ column (n / 10 / 10) ∷ column (n / 10) ∷ digit (n % 10) ∷ []
-unfolding field
-field-columns n h = by-digits (λ s. justified fieldSize s ≡ columns 4 (n / 10) ++ digit (n % 10) ∷ []) 4 n
-    (λ l.
-    let e : n / 10 ≡ 0 = omega arith in
-    let m : n % 10 ≡ n = omega arith in
-    rw (e, m) (ap (λ s. s ++ digit n ∷ []) (sym (spaces 4))))
-    (λ l. justified-snoc 4 (decimal 4 (n / 10)) (digit (n % 10)) ∙ ap (λ s. s ++ digit (n % 10) ∷ []) (sym (columns-decimal 4 (n / 10) (λ e. omega arith) (omega arith))))
-
--- ---- bytes put into a buffer: those before and after them stay
-unfoldable pub put : List ℕ → ℕ → List ℕ → List ℕ
-put out at s = take at out ++ s ++ drop (at + length s) out
-
-module _ (out : List ℕ) (at : ℕ) (s : List ℕ) (room : at + length s ≤ length out) where
-  head-length : length (take at out ++ s) ≡ at + length s
-  head-length = omega (arith, length-append (take at out) s, length-take-le at out (omega arith))
-
-  pub put-more : (r : List ℕ) → put (put out at s) (at + length s) r ≡ put out at (s ++ r)
-  unfolding put
-  put-more r =
-      let p : List ℕ = take at out ++ s in
-      let n : ℕ = at + length s in
-      let e : at + length (s ++ r) ≡ n + length r = omega (arith, length-append s r) in
-      let d : drop (n + length r) (p ++ drop n out) ≡ drop (n + length r) out =
-      sym (drop-drop (length r) n (p ++ drop n out)) ∙ ap (drop (length r)) (drop-at p (drop n out) n head-length) ∙ drop-drop (length r) n out in
-      ap₂ (λ a b. a ++ r ++ b) (take-at p (drop n out) n head-length) d
-      ∙ ap (λ a. a ++ drop (n + length r) out) (append-assoc (take at out) s r) ∙ ap (λ m. take at out ++ (s ++ r) ++ drop m out) (sym e)
-
--- a row's bytes, column by column
-pub row-bytes : (c x y z : ℕ) → x < 100000 → y < 100000 → z < 100000 → c ∷ fieldsBytes (plus x ∷ plus y ∷ plus z ∷ [])
-    ≡ c
-    ∷ column (x / 10 / 10 / 10 / 10) ∷ column (x / 10 / 10 / 10) ∷ column (x / 10 / 10) ∷ column (x / 10) ∷ digit (x % 10)
-    ∷ column (y / 10 / 10 / 10 / 10) ∷ column (y / 10 / 10 / 10) ∷ column (y / 10 / 10) ∷ column (y / 10) ∷ digit (y % 10)
-    ∷ column (z / 10 / 10 / 10 / 10) ∷ column (z / 10 / 10 / 10) ∷ column (z / 10 / 10) ∷ column (z / 10) ∷ digit (z % 10)
-    ∷ code "\n" ∷ []
-unfolding fieldsBytes
-row-bytes c x y z p q r = rw (field-columns x p, field-columns y q, field-columns z r)
-
--- a row of n bytes put there one by one
-pub all-put : (out : List ℕ) (at : ℕ) (s : List ℕ) (n : ℕ) → length s ≡ n → paste out at s n ≡ put out at s
-unfolding put
-all-put out at s n e = rw (← e) (ap (λ r. take at out ++ r ++ drop (at + length s) out) (take-length s))
+-- as the code holds them; the fourth does not count
+pub row-numbers : (x y z : ℕ) (a b c d : Number) → numberFrom a ≡ plus x → numberFrom b ≡ plus y → numberFrom c ≡ plus z → numbersFrom 3 (a ∷ b ∷ c ∷ d ∷ []) ≡ plus x ∷ plus y ∷ plus z ∷ []
+unfolding numbersFrom
+row-numbers x y z a b c d p q r = cc
 
 -- ---- rows one after another
 
@@ -119,22 +52,22 @@ module _ {A : Type 0} (f : ℕ → A → Row) where
     pub size : length (rowsBytes (each f 1 (take k l))) ≡ 17 * k
 
   pub put-none : (out : List ℕ) (at : ℕ) (l : List A) → Put out at l 0 out
-  unfolding put rowsBytes each
-  put-none out at l = record { bytes = sym (ap (λ m. take at out ++ [] ++ drop m out) (add-zero at) ∙ ap (λ s. s ++ drop at out) (append-nil (take at out)) ∙ take-append-drop at out); size = refl }
+  unfolding rowsBytes each
+  put-none out at l = record { bytes = sym (put-nothing out at); size = refl }
 
   -- the next one
-  pub put-next : (out : List ℕ) (at : ℕ) (l : List A) (k : ℕ) (now next row : List ℕ) (d a : A) → Put out at l k now → k < length l → getD l k d ≡ a → at + 17 * (k + 1) ≤ length out
-      → row ≡ rowBytes (f (k + 1) a) → length row ≡ 17 → next ≡ put now (at + 17 * k) row → Put out at l (k + 1) next
-  put-next out at l k now next row d a p h g room e n b =
+  pub put-next : (out : List ℕ) (at : ℕ) (l : List A) (k : ℕ) (now next : List ℕ) (d a : A) (r : Row) → Put out at l k now → k < length l → getD l k d ≡ a → at + 17 * (k + 1) ≤ length out
+      → r ≡ f (k + 1) a → length (rowBytes r) ≡ 17 → next ≡ put now (at + 17 * k) (rowBytes r) → Put out at l (k + 1) next
+  put-next out at l k now next d a r p h g room e n b =
       let done : List ℕ = rowsBytes (each f 1 (take k l)) in
       let i : 1 + length (take k l) ≡ k + 1 = omega (arith, length-take-le k l (omega arith)) in
       let t : take (k + 1) l ≡ take k l ++ a ∷ [] = ap (λ m. take m l) (add-one k) ∙ take-suc l k d h ∙ ap (λ x. take k l ++ x ∷ []) g in
-      let r : rowsBytes (each f 1 (take (k + 1) l)) ≡ done ++ row =
+      let more : rowsBytes (each f 1 (take (k + 1) l)) ≡ done ++ rowBytes r =
       ap (λ m. rowsBytes (each f 1 m)) t ∙ ap rowsBytes (each-snoc 1 (take k l) a) ∙ rows-snoc (each f 1 (take k l)) (f (1 + length (take k l)) a)
-      ∙ ap (λ m. done ++ rowBytes (f m a)) i ∙ ap (λ s. done ++ s) (sym e) in
+      ∙ ap (λ m. done ++ rowBytes (f m a)) i ∙ ap (λ q. done ++ rowBytes q) (sym e) in
       record {
-        bytes = b ∙ ap₂ (λ o m. put o (at + m) row) (p .bytes) (sym (p .size)) ∙ put-more out at done (omega (arith, p .size)) row ∙ ap (put out at) (sym r);
-        size = ap length r ∙ omega (arith, length-append done row, p .size);
+        bytes = b ∙ ap₂ (λ o m. put o (at + m) (rowBytes r)) (p .bytes) (sym (p .size)) ∙ put-more out at done (omega (arith, p .size)) (rowBytes r) ∙ ap (put out at) (sym more);
+        size = ap length more ∙ omega (arith, length-append done (rowBytes r), p .size);
       }
 
 -- numbers that fit a field
@@ -160,20 +93,12 @@ length-each f i [] = refl
 length-each f i (a ∷ l) = ap suc (length-each f (suc i) l)
 
 pub wrote-none : (out : List ℕ) (at : ℕ) → Wrote out at [] out at
-unfolding rowsBytes put
-wrote-none out at = record {
-  bytes = sym (ap (λ m. take at out ++ [] ++ drop m out) (add-zero at) ∙ ap (λ s. s ++ drop at out) (append-nil (take at out)) ∙ take-append-drop at out);
-  size = refl;
-  end-is = omega arith;
-}
-
-pub wrote-row : (out : List ℕ) (at : ℕ) (r : Row) (row now : List ℕ) (end : ℕ) → row ≡ rowBytes r → length row ≡ 17 → now ≡ put out at row → end ≡ at + 17 → Wrote out at (r ∷ []) now end
 unfolding rowsBytes
-wrote-row out at r row now end e n b f = record {
-  bytes = b ∙ ap (put out at) (e ∙ sym (append-nil (rowBytes r)));
-  size = ap length (append-nil (rowBytes r) ∙ sym e) ∙ n;
-  end-is = f;
-}
+wrote-none out at = record { bytes = sym (put-nothing out at); size = refl; end-is = omega arith }
+
+pub wrote-row : (out : List ℕ) (at : ℕ) (r : Row) (now : List ℕ) (end : ℕ) → length (rowBytes r) ≡ 17 → now ≡ put out at (rowBytes r) → end ≡ at + 17 → Wrote out at (r ∷ []) now end
+unfolding rowsBytes
+wrote-row out at r now end n b e = record { bytes = b ∙ ap (put out at) (sym (append-nil (rowBytes r))); size = ap length (append-nil (rowBytes r)) ∙ n; end-is = e }
 
 pub wrote-each : {A : Type 0} (f : ℕ → A → Row) (out : List ℕ) (at : ℕ) (l : List A) (k : ℕ) (now : List ℕ) (end : ℕ) → Put f out at l k now → k ≡ length l → end ≡ at + 17 * k → Wrote out at (each f 1 l) now end
 wrote-each f out at l k now end p h e =
@@ -192,3 +117,8 @@ wrote-more out at rs qs middle now m end p q room = record {
   size = ap length (rows-append rs qs) ∙ omega (arith, length-append (rowsBytes rs) (rowsBytes qs), length-append rs qs, p .size, q .size);
   end-is = omega (arith, p .end-is, q .end-is, length-append rs qs);
 }
+
+-- rows at the beginning
+pub wrote-first : (out : List ℕ) (rs : List Row) (now : List ℕ) (end : ℕ) → Wrote out 0 rs now end → now ≡ over (rowsBytes rs) out
+unfolding put
+wrote-first out rs now end w = w .bytes ∙ ap (λ m. rowsBytes rs ++ drop m out) (zero-add (length (rowsBytes rs)))

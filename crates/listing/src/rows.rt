@@ -1,7 +1,6 @@
 // The rows of the listing that come in numbers: switches, wishes, patterns.
 use crate::row::ROW_SIZE;
 use crate::row::put_row;
-use crate::row::row;
 use circuit::Plan;
 ghost use mathlib.Core.Path.{_≡_};
 ghost use mathlib.Core.List.{[]};
@@ -46,8 +45,7 @@ pub fn put_switches(out: &mut [u8], at: usize, a: u32, plan: Plan)
     let mut i: u32 = 0;
     while i < a {
         let on = flag(circuit::point::digit(plan.0, a, i + 1));
-        let bytes = row(SWITCH, i + 1, on, 0);
-        put_row(out, at + ROW_SIZE * wide(i), bytes);
+        put_row(out, at + ROW_SIZE * wide(i), SWITCH, i + 1, on, 0);
         i += 1;
     }
 }
@@ -69,8 +67,7 @@ pub fn put_wishes(
     while i < first.len() {
         let kept = flag(circuit::wish::kept(first[i], second[i], third[i], a, plan));
         let number = narrow(i + 1);
-        let bytes = row(WISH, number, kept, 0);
-        put_row(out, at + ROW_SIZE * i, bytes);
+        put_row(out, at + ROW_SIZE * i, WISH, number, kept, 0);
         i += 1;
     }
 }
@@ -83,8 +80,7 @@ pub fn put_patterns(out: &mut [u8], at: usize, list: &[u32])
     let mut i = 0;
     while i < list.len() {
         let number = narrow(i + 1);
-        let bytes = row(PATTERN, number, list[i], 0);
-        put_row(out, at + ROW_SIZE * i, bytes);
+        put_row(out, at + ROW_SIZE * i, PATTERN, number, list[i], 0);
         i += 1;
     }
 }

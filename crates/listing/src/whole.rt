@@ -1,7 +1,6 @@
 // A whole listing.
 use crate::row::ROW_SIZE;
 use crate::row::put_row;
-use crate::row::row;
 use crate::rows::narrow;
 use crate::rows::put_patterns;
 use crate::rows::put_switches;
@@ -61,11 +60,11 @@ pub fn put_listing(
     requires { ⌜ Clauses a (now first) (now second) (now third) × (71094 ≤ length (now out)) × (number < 100000) × (place < 100000) × (figure < 100000) × (length (now list) ≤ 4096) × Small (now list) ⌝ }
     ensures { λ r. ⌜ Wrote (now (out .entry)) 0 (listingRows number place figure (planRowsOf found a (plan .0) (wishesOf (now (first .entry)) (now (second .entry)) (now (third .entry)))) (now (list .entry))) (now (out .exit)) r ⌝ }
 {
-    put_row(out, 0, row(ANSWER, number, place, figure));
+    put_row(out, 0, ANSWER, number, place, figure);
     let middle = put_plan(out, ROW_SIZE, found, a, plan, first, second, third);
     put_patterns(out, middle, list);
     let end = middle + ROW_SIZE * list.len();
     let lines = narrow(end / ROW_SIZE);
-    put_row(out, end, row(END, lines, 0, 0));
+    put_row(out, end, END, lines, 0, 0);
     end + ROW_SIZE
 }

@@ -1,5 +1,5 @@
 -- The listing of what Answer returned is the program's output. Assumes nothing.
-use Prim.Native.Nat.{ℕ, _+_, _≤_, _<_}
+use Prim.Native.Nat.{ℕ, _≤_, _<_}
 use native.Mathlib.Omega.{arith}
 use mathlib.Core.Bool.{Bool, true, false, cond}
 use mathlib.Core.List.{List, [], _∷_, _++_}
@@ -16,7 +16,7 @@ use Rattle.scope.specs.Demands.{listed}
 use Rattle.scope.specs.Program.{Row, row, each, switchRow, wishRow, patternRow, planRows, third, answerRows, ended, room, outputRows, rowsBytes}
 use Rattle.scope.specs.laws.Outputs.{output-fits, listed-small}
 use Rattle.circuit.specs.Lent.{rows, Clauses, wishesOf, wishSheet}
-use Rattle.listing.specs.Rows.{Wrote, put, Small}
+use Rattle.listing.specs.Rows.{Wrote, wrote-first, Small}
 use Rattle.listing.specs.Listing.{planRowsOf, listingRows}
 use Rattle.sheet.specs.declared.tables.Tables.{Tables}
 use Rattle.sheet.specs.Tables.{tables, outcome, Sourced}
@@ -78,10 +78,8 @@ unfolding listingInto listingLength
 too-short r out h = rw (lt-ltb (length out) 71094 h) (refl, refl)
 
 pub wrote-listing : (r : Read) (out now : List ℕ) (rs : List Row) (end : ℕ) → 71094 ≤ length out → rs ≡ outputRows r → Wrote out 0 rs now end → (now ≡ listingInto r out) × (end ≡ listingLength r out)
-unfolding listingInto listingLength put
-wrote-listing r out now rs end h e w =
-    let n : 0 + length (rowsBytes rs) ≡ length (rowsBytes rs) = omega arith in
-    rw (le-ltb (length out) 71094 h, ← e) (w .bytes ∙ ap (λ k. rowsBytes rs ++ drop k out) n, omega (arith, w .end-is, w .size))
+unfolding listingInto listingLength
+wrote-listing r out now rs end h e w = rw (le-ltb (length out) 71094 h, ← e) (wrote-first out rs now end w, omega (arith, w .end-is, w .size))
 
 -- ---- what Answer returned, o, and left in the program's list, l
 module _ (r : Read) (h : Source r) (o : Outcome) (l : List ℕ) (g : answerFrom o l ≡ answerOf r (replicate room 0)) where

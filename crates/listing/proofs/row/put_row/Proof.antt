@@ -1,79 +1,43 @@
-use Prim.Native.Nat.{_≤_, _-_}
-use mathlib.Core.Path.{_≡_, ap, _∙_}
-use native.Mathlib.Numerals.{add-one}
-use native.Mathlib.Omega.{arith}
-use lib.ListN.{length}
-use lib.Seq.{paste, paste-zero, paste-suc, length-paste}
-use Rattle.listing.specs.Rows.{all-put}
 use borrow.Author.Needs.{needs}
+use Rattle.listing.specs.Rows.{row-fits, row-numbers}
 use Rattle.listing.proofs.row.put_row.Statement.{statement}
 use Rattle.listing.proofs.row.put_row.Tie as tie
 
-abbrev Inv-loop : tie.InvT-loop
-Inv-loop out₀ at row j₀ out j = (j ≤ 17) × (out ≡ paste out₀ at row j)
+number-requires : tie.Need-number-requires
+number-requires c κs = search needs
 
-abbrev μ-loop : tie.MeasureT-loop
-μ-loop out₀ at row j₀ out j = 17 - j
+number-requires-2 : tie.Need-number-requires-2
+number-requires-2 c κs = search needs
 
-loop-holds : tie.Need-loop-holds Inv-loop μ-loop
-loop-holds c = (search needs, paste-zero (c .args .out .now) (c .args .at) (c .args .t3))
+number-requires-3 : tie.Need-number-requires-3
+number-requires-3 c κs = search needs
 
-array-read-out : tie.Need-array-read-out Inv-loop μ-loop
-array-read-out c = search needs
+number-requires-4 : tie.Need-number-requires-4
+number-requires-4 c κs = search needs
 
-add-out : tie.Need-add-out Inv-loop μ-loop
-add-out c = search needs
+put-line-requires : tie.Need-put-line-requires
+put-line-requires c κs =
+    let s = c .before .before .before .before .before .before in
+    let e = row-numbers (s .args .x) (s .args .y) (s .args .z) _ _ _ (c .before .number4 .result) (c .before .before .before .before .number .ensures) (c .before .before .before .number2 .ensures) (c .before .before .number3 .ensures) in
+    (search needs, rw e (row-fits (s .args .x) (s .args .y) (s .args .z) (s .pre .0) (s .pre .1) (s .pre .2)), search needs)
 
-slice-write-out : tie.Need-slice-write-out Inv-loop μ-loop
-slice-write-out c =
-    let a = c .before .before .args in
-    let w : length (a .t3) ≡ 17 = search needs in
-    let j = c .before .loop .j in
-    let e = c .before .loop .inv .1 in
-    let n : length (c .before .loop .out) ≡ length (a .out .now) = ap length e ∙ length-paste (a .out .now) (a .at) (a .t3) j (omega arith) (omega arith) in
-    omega arith
+same-length : tie.Need-same-length
+same-length c = search needs
 
-add-j : tie.Need-add-j Inv-loop μ-loop
-add-j c = search needs
-
-loop-less : tie.Need-loop-less Inv-loop μ-loop
-loop-less c = search needs
-
-loop-again : tie.Need-loop-again Inv-loop μ-loop
-loop-again c =
-    let a = c .before .before .args in
-    let w : length (a .t3) ≡ 17 = search needs in
-    let j = c .before .loop .j in
-    (omega arith, rw (add-one j, c .before .loop .inv .1) (paste-suc (a .out .now) (a .at) (a .t3) j 0 (omega arith) (omega arith)))
-
-same-length : tie.Need-same-length Inv-loop μ-loop
-same-length c =
-    let a = c .before .before .args in
-    let w : length (a .t3) ≡ 17 = search needs in
-    let j = c .before .loop .j in
-    let e = c .before .loop .inv .1 in
-    let n : length (c .before .loop .out) ≡ length (a .out .now) = ap length e ∙ length-paste (a .out .now) (a .at) (a .t3) j (omega arith) (omega arith) in
-    n
-
-returns : tie.Need-returns Inv-loop μ-loop
+returns : tie.Need-returns
 returns c =
-    let a = c .before .before .args in
-    let w : length (a .t3) ≡ 17 = search needs in
-    let j : c .before .loop .j ≡ 17 = omega arith in
-    c .before .loop .inv .1 ∙ ap (paste (a .out .now) (a .at) (a .t3)) j ∙ all-put (a .out .now) (a .at) (a .t3) 17 w
+    let s = c .before .before .before .before .before .before .before .before .before in
+    let e = row-numbers (s .args .x) (s .args .y) (s .args .z) _ _ _ (c .before .before .before .before .number4 .result) (c .before .before .before .before .before .before .before .number .ensures) (c .before .before .before .before .before .before .number2 .ensures) (c .before .before .before .before .before .number3 .ensures) in
+    rw e at (c .before .before .put-line .ensures)
 
 pub put-row-spec : {M : Type 1} → statement M
 put-row-spec =
     tie.close
     (tie.spec
-    Inv-loop
-    μ-loop
-    loop-holds
-    array-read-out
-    add-out
-    slice-write-out
-    add-j
-    loop-less
-    loop-again
+    number-requires
+    number-requires-2
+    number-requires-3
+    number-requires-4
+    put-line-requires
     same-length
     returns)

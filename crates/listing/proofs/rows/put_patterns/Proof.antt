@@ -1,10 +1,11 @@
 use Prim.Native.Nat.{_≤_, _-_}
+use Prim.Native.Char.{code}
 use mathlib.Core.Path.{_≡_, refl, ap, _∙_}
 use native.Mathlib.Omega.{arith}
 use lib.ListN.{length, getD}
 use borrow.Author.Needs.{needs}
-use Rattle.scope.specs.Program.{patternRow}
-use Rattle.listing.specs.Rows.{Put, put-none, put-next, rowBytes}
+use Rattle.scope.specs.Program.{row, patternRow}
+use Rattle.listing.specs.Rows.{row-size, Put, put-none, put-next}
 use Rattle.listing.proofs.rows.put_patterns.Statement.{statement}
 use Rattle.listing.proofs.rows.put_patterns.Tie as tie
 
@@ -23,23 +24,20 @@ add-narrow c = search needs
 narrow-requires : tie.Need-narrow-requires Inv-loop μ-loop
 narrow-requires c κs = search needs
 
-mul-row : tie.Need-mul-row Inv-loop μ-loop
-mul-row c = search needs
-
-shared-slice-read-row : tie.Need-shared-slice-read-row Inv-loop μ-loop
-shared-slice-read-row c = search needs
-
-row-requires : tie.Need-row-requires Inv-loop μ-loop
-row-requires c κs = (search needs, c .before .before .before .before .before .before .pre .2 _ (c .before .before .loop-test .taken), search needs)
-
 mul-put-row : tie.Need-mul-put-row Inv-loop μ-loop
 mul-put-row c = search needs
 
 add-put-row : tie.Need-add-put-row Inv-loop μ-loop
 add-put-row c = search needs
 
+mul-put-row-2 : tie.Need-mul-put-row-2 Inv-loop μ-loop
+mul-put-row-2 c = search needs
+
+shared-slice-read-put-row : tie.Need-shared-slice-read-put-row Inv-loop μ-loop
+shared-slice-read-put-row c = search needs
+
 put-row-requires : tie.Need-put-row-requires Inv-loop μ-loop
-put-row-requires c κs = search needs
+put-row-requires c κs = (search needs, c .before .before .before .before .before .before .before .pre .2 _ (c .before .before .before .loop-test .taken), search needs, search needs)
 
 add-i : tie.Need-add-i Inv-loop μ-loop
 add-i c = search needs
@@ -49,16 +47,17 @@ loop-less c = search needs
 
 loop-again : tie.Need-loop-again Inv-loop μ-loop
 loop-again c =
-    let s = c .before .before .before .before .before .before .before .before in
+    let s = c .before .before .before .before .before .before .before in
     let a = s .before .before .before .args in
     let i = s .loop .i in
     let q = getD (a .list .now) i 0 in
-    let r = c .before .before .before .before .row in
-    let w : length (r .result) ≡ 17 = search needs in
-    let n : length (c .before .before .put-row .last .0) ≡ length (s .loop .out) = search needs in (
+    let m = c .before .before .before .before .before .narrow in
+    let o = c .before .before .put-row in
+    let n : length (o .last .0) ≡ length (s .loop .out) = search needs in
+    let small = s .before .before .before .pre .2 i (c .before .before .before .before .before .before .loop-test .taken) in (
       omega arith,
       n ∙ s .loop .inv .1,
-      put-next patternRow (a .out .now) (a .at) (a .list .now) i (s .loop .out) (c .before .before .put-row .last .0) (r .result) 0 q (s .loop .inv .2) (omega arith) refl (omega arith) (r .ensures ∙ ap (λ m. rowBytes (patternRow m q)) (c .before .before .before .before .before .before .narrow .ensures)) w (c .before .before .put-row .ensures),
+      put-next patternRow (a .out .now) (a .at) (a .list .now) i (s .loop .out) (o .last .0) 0 q (row "F" (m .result) q 0) (s .loop .inv .2) (omega arith) refl (omega arith) (ap (λ k. patternRow k q) (m .ensures)) (row-size (code "F") (m .result) q 0 (omega (arith, m .ensures)) small (omega arith)) (o .ensures),
     )
 
 same-length : tie.Need-same-length Inv-loop μ-loop
@@ -76,11 +75,10 @@ put-patterns-spec =
     loop-holds
     add-narrow
     narrow-requires
-    mul-row
-    shared-slice-read-row
-    row-requires
     mul-put-row
     add-put-row
+    mul-put-row-2
+    shared-slice-read-put-row
     put-row-requires
     add-i
     loop-less

@@ -1,14 +1,14 @@
-use Prim.Native.Nat.{_+_}
+use Prim.Native.Nat.{_≤_, _+_, _-_}
+use Prim.Native.Char.{code}
 use mathlib.Core.Bool.{false}
-use Rattle.scope.specs.laws.Points.{length-bits}
-use Prim.Native.Nat.{_≤_, _-_}
-use mathlib.Core.Path.{_≡_, refl, sym, _∙_}
+use mathlib.Core.Path.{_≡_, refl, sym, ap, _∙_}
 use native.Mathlib.Omega.{arith}
 use lib.ListN.{length}
 use borrow.Author.Needs.{needs}
 use Rattle.scope.specs.Meaning.{bits}
-use Rattle.scope.specs.Program.{switchRow}
-use Rattle.listing.specs.Rows.{Put, put-none, put-next}
+use Rattle.scope.specs.Program.{row, switchRow}
+use Rattle.scope.specs.laws.Points.{length-bits}
+use Rattle.listing.specs.Rows.{row-size, Put, put-none, put-next}
 use Rattle.listing.proofs.rows.put_switches.Statement.{statement}
 use Rattle.listing.proofs.rows.put_switches.Tie as tie
 
@@ -30,12 +30,6 @@ digit-requires c κs = search needs
 flag-requires : tie.Need-flag-requires Inv-loop μ-loop
 flag-requires c κs = search needs
 
-add-row : tie.Need-add-row Inv-loop μ-loop
-add-row c = search needs
-
-row-requires : tie.Need-row-requires Inv-loop μ-loop
-row-requires c κs = search needs
-
 wide-requires : tie.Need-wide-requires Inv-loop μ-loop
 wide-requires c κs = search needs
 
@@ -44,6 +38,9 @@ mul-put-row c = search needs
 
 add-put-row : tie.Need-add-put-row Inv-loop μ-loop
 add-put-row c = search needs
+
+add-put-row-2 : tie.Need-add-put-row-2 Inv-loop μ-loop
+add-put-row-2 c = search needs
 
 put-row-requires : tie.Need-put-row-requires Inv-loop μ-loop
 put-row-requires c κs = search needs
@@ -56,18 +53,17 @@ loop-less c = search needs
 
 loop-again : tie.Need-loop-again Inv-loop μ-loop
 loop-again c =
-    let s = c .before .before .before .before .before .before .before .before .before in
+    let s = c .before .before .before .before .before .before .before .before in
     let a = s .before .before .args in
     let i = s .loop .i in
-    let d = c .before .before .before .before .before .before .before .digit in
-    let r = c .before .before .before .before .before .row in
+    let d = c .before .before .before .before .before .before .digit in
+    let f = c .before .before .before .before .before .flag in
     let o = c .before .before .put-row in
-    let w : length (r .result) ≡ 17 = search needs in
     let n : length (o .last .0) ≡ length (s .loop .out) = search needs in
     let e : i + 1 - 1 ≡ i = omega arith in (
       omega arith,
       n ∙ s .loop .inv .1,
-      put-next switchRow (a .out .now) (a .at) (bits (a .a) (a .plan .0)) i (s .loop .out) (o .last .0) (r .result) false (d .result) (s .loop .inv .2) (rw (length-bits (a .a) (a .plan .0)) (omega arith)) (sym (rw e at (d .ensures))) (omega arith) (rw (c .before .before .before .before .before .before .flag .ensures .0) at (r .ensures)) w (rw (c .before .before .before .wide .ensures) at (o .ensures)),
+      put-next switchRow (a .out .now) (a .at) (bits (a .a) (a .plan .0)) i (s .loop .out) (o .last .0) false (d .result) (row "S" (i + 1) (f .result) 0) (s .loop .inv .2) (rw (length-bits (a .a) (a .plan .0)) (omega arith)) (sym (rw e at (d .ensures))) (omega arith) (ap (λ m. row "S" (i + 1) m 0) (f .ensures .0)) (row-size (code "S") (i + 1) (f .result) 0 (omega arith) (f .ensures .1) (omega arith)) (rw (c .before .before .before .wide .ensures) at (o .ensures)),
     )
 
 same-length : tie.Need-same-length Inv-loop μ-loop
@@ -86,11 +82,10 @@ put-switches-spec =
     add-digit
     digit-requires
     flag-requires
-    add-row
-    row-requires
     wide-requires
     mul-put-row
     add-put-row
+    add-put-row-2
     put-row-requires
     add-i
     loop-less

@@ -1,16 +1,15 @@
-use Prim.Native.Nat.{_<_}
-use Rattle.circuit.specs.Lent.{clauseOf}
-use Rattle.circuit.specs.laws.Columns.{length-rows, row-at}
-use Rattle.circuit.specs.laws.Wishes.{wish-at}
-use Prim.Native.Nat.{_≤_, _-_}
+use Prim.Native.Nat.{_-_, _≤_, _<_}
+use Prim.Native.Char.{code}
 use mathlib.Core.List.{[]}
-use mathlib.Core.Path.{_≡_, refl, _∙_}
+use mathlib.Core.Path.{_≡_, refl, ap₂, _∙_}
 use native.Mathlib.Omega.{arith}
 use lib.ListN.{length, getD}
 use borrow.Author.Needs.{needs}
-use Rattle.scope.specs.Program.{wishRow}
-use Rattle.circuit.specs.Lent.{wishesOf, wishSheet}
-use Rattle.listing.specs.Rows.{Put, put-none, put-next}
+use Rattle.scope.specs.Program.{row, wishRow}
+use Rattle.circuit.specs.Lent.{clauseOf, wishesOf, wishSheet}
+use Rattle.circuit.specs.laws.Columns.{length-rows, row-at}
+use Rattle.circuit.specs.laws.Wishes.{wish-at}
+use Rattle.listing.specs.Rows.{row-size, Put, put-none, put-next}
 use Rattle.listing.proofs.rows.put_wishes.Statement.{statement}
 use Rattle.listing.proofs.rows.put_wishes.Tie as tie
 
@@ -55,9 +54,6 @@ add-narrow c = search needs
 narrow-requires : tie.Need-narrow-requires Inv-loop μ-loop
 narrow-requires c κs = search needs
 
-row-requires : tie.Need-row-requires Inv-loop μ-loop
-row-requires c κs = search needs
-
 mul-put-row : tie.Need-mul-put-row Inv-loop μ-loop
 mul-put-row c = search needs
 
@@ -75,22 +71,24 @@ loop-less c = search needs
 
 loop-again : tie.Need-loop-again Inv-loop μ-loop
 loop-again c =
-    let s = c .before .before .before .before .before .before .before .before .before .before .before .before in
+    let s = c .before .before .before .before .before .before .before .before .before .before .before in
     let a = s .before .before .before .before .before .args in
     let q = s .before .before .before .before .before .pre .0 in
     let l = wishesOf (a .first .now) (a .second .now) (a .third .now) in
     let i = s .loop .i in
-    let r = c .before .before .before .before .row in
+    let k = c .before .before .before .before .before .before .kept in
+    let f = c .before .before .before .before .before .flag in
+    let m = c .before .before .before .before .narrow in
     let o = c .before .before .put-row in
-    let w : length (r .result) ≡ 17 = search needs in
     let n : length (o .last .0) ≡ length (s .loop .out) = search needs in
-    let h : i < length (a .first .now) = c .before .before .before .before .before .before .before .before .before .before .before .loop-test .taken in
+    let h : i < length (a .first .now) = c .before .before .before .before .before .before .before .before .before .before .loop-test .taken in
     let v = clauseOf (getD (a .first .now) i 0) (getD (a .second .now) i 0) (getD (a .third .now) i 0) in (
       omega (arith, h),
       n ∙ s .loop .inv .1,
-      put-next (wishRow (wishSheet (a .a) []) (a .plan .0)) (a .out .now) (a .at) l i (s .loop .out) (o .last .0) (r .result) [] v (s .loop .inv .2)
+      put-next (wishRow (wishSheet (a .a) []) (a .plan .0)) (a .out .now) (a .at) l i (s .loop .out) (o .last .0) [] v (row "W" (m .result) (f .result) 0) (s .loop .inv .2)
           (rw (length-rows clauseOf (a .first .now) (a .second .now) (a .third .now) (q .columns .seconds) (q .columns .thirds)) h) (row-at clauseOf (a .first .now) (a .second .now) (a .third .now) [] i (q .columns .seconds) (q .columns .thirds) h) (omega (arith, h, s .before .before .before .before .before .pre .1))
-          (rw (c .before .before .before .before .before .narrow .ensures, c .before .before .before .before .before .before .flag .ensures .0, c .before .before .before .before .before .before .before .kept .ensures) at (r .ensures)) w (o .ensures),
+          (ap₂ (λ x y. row "W" x y 0) (m .ensures) (rw (k .ensures) at (f .ensures .0)))
+          (row-size (code "W") (m .result) (f .result) 0 (omega (arith, m .ensures, h, q .columns .few)) (f .ensures .1) (omega arith)) (o .ensures),
     )
 
 same-length : tie.Need-same-length Inv-loop μ-loop
@@ -116,7 +114,6 @@ put-wishes-spec =
     flag-requires
     add-narrow
     narrow-requires
-    row-requires
     mul-put-row
     add-put-row
     put-row-requires

@@ -1,17 +1,15 @@
-use Prim.Native.Nat.{_+_, _*_}
+use Prim.Native.Nat.{_+_, _*_, _<_}
+use Prim.Native.Char.{code}
 use native.Mathlib.Omega.{arith}
-use mathlib.Core.Path.{_≡_, refl}
+use mathlib.Core.Path.{refl}
 use lib.ListN.{length}
 use Rattle.scope.specs.Program.{row, patternRow}
 use Rattle.circuit.specs.Lent.{wishesOf}
-use Rattle.listing.specs.Rows.{wrote-row, wrote-each}
+use Rattle.listing.specs.Rows.{row-size, wrote-row, wrote-each}
 use Rattle.listing.specs.Listing.{planRowsOf, listing-wrote}
 use borrow.Author.Needs.{needs}
 use Rattle.listing.proofs.whole.put_listing.Statement.{statement}
 use Rattle.listing.proofs.whole.put_listing.Tie as tie
-
-row-requires : tie.Need-row-requires
-row-requires c κs = search needs
 
 put-row-requires : tie.Need-put-row-requires
 put-row-requires c κs = search needs
@@ -31,9 +29,6 @@ add-end c = search needs
 narrow-requires : tie.Need-narrow-requires
 narrow-requires c κs = search needs
 
-row-requires-2 : tie.Need-row-requires-2
-row-requires-2 c κs = search needs
-
 put-row-requires-2 : tie.Need-put-row-requires-2
 put-row-requires-2 c κs = search needs
 
@@ -45,41 +40,34 @@ same-length c = search needs
 
 returns : tie.Need-returns
 returns c =
-    let s = c .before .before .before .before .before .before .before .before .before .before .before .before .before .before .before .before .before .before .before .before .before .before .before .before in
+    let s = c .before .before .before .before .before .before .before .before .before .before .before .before .before .before .before .before .before .before .before .before .before .before in
     let a = s .args in
-    let q = s .pre .0 in
     let ws = wishesOf (a .first .now) (a .second .now) (a .third .now) in
-    let r₁ = c .before .before .before .before .before .before .before .before .before .before .before .before .before .before .before .before .before .row in
-    let o₁ = c .before .before .before .before .before .before .before .before .before .before .before .before .before .before .before .before .put-row in
-    let o₂ = c .before .before .before .before .before .before .before .before .before .before .before .before .put-plan in
-    let o₃ = c .before .before .before .before .before .before .before .before .put-patterns in
-    let r₂ = c .before .before .before .row2 in
+    let o₁ = c .before .before .before .before .before .before .before .before .before .before .before .before .before .before .before .put-row in
+    let o₂ = c .before .before .before .before .before .before .before .before .before .before .before .put-plan in
+    let o₃ = c .before .before .before .before .before .before .before .put-patterns in
     let o₄ = c .before .before .put-row2 in
-    let n = c .before .before .before .before .before .narrow in
+    let n = c .before .before .before .before .narrow in
     let m = o₂ .result in
     let e = m + 17 * length (a .list .now) in
-    let w₁ : length (r₁ .result) ≡ 17 = search needs in
-    let w₂ : length (r₂ .result) ≡ 17 = search needs in
-    let z = r₂ .ensures in
+    let small : n .result < 100000 = omega (arith, n .ensures, o₂ .ensures .1, s .pre .5) in
     listing-wrote (a .out .now) (o₁ .last .0) (o₂ .last .0) (o₃ .last .0) (o₄ .last .0) (a .number) (a .place) (a .figure) (planRowsOf (a .found) (a .a) (a .plan .0) ws) (a .list .now) m e (e + 17) (n .result)
-    (wrote-row (a .out .now) 0 (row "A" (a .number) (a .place) (a .figure)) (r₁ .result) (o₁ .last .0) 17 (r₁ .ensures) w₁ (o₁ .ensures) refl)
+    (wrote-row (a .out .now) 0 (row "A" (a .number) (a .place) (a .figure)) (o₁ .last .0) 17 (row-size (code "A") (a .number) (a .place) (a .figure) (s .pre .2) (s .pre .3) (s .pre .4)) (o₁ .ensures) refl)
     (o₂ .ensures .0)
     (wrote-each patternRow (o₂ .last .0) m (a .list .now) (length (a .list .now)) (o₃ .last .0) e (o₃ .ensures) refl refl)
-    (wrote-row (o₃ .last .0) e (row "Z" (n .result) 0 0) (r₂ .result) (o₄ .last .0) (e + 17) z w₂ (o₄ .ensures) refl)
+    (wrote-row (o₃ .last .0) e (row "Z" (n .result) 0 0) (o₄ .last .0) (e + 17) (row-size (code "Z") (n .result) 0 0 small (omega arith) (omega arith)) (o₄ .ensures) refl)
     (n .ensures) (omega arith) (omega (arith, o₂ .ensures .1, s .pre .1, s .pre .5)) (omega (arith, o₂ .ensures .0 .end-is))
 
 pub put-listing-spec : {M : Type 1} → statement M
 put-listing-spec =
     tie.close
     (tie.spec
-    row-requires
     put-row-requires
     put-plan-requires
     put-patterns-requires
     mul-end
     add-end
     narrow-requires
-    row-requires-2
     put-row-requires-2
     add-result
     same-length
