@@ -10,6 +10,8 @@ use crate::typed::print_text;
 use crate::typed::rate_text;
 use crate::typed::short_run_text;
 use circuit::Plan;
+use sheet::tables::Counts;
+use writer::write::write;
 ghost use mathlib.Core.List.{[], _∷_};
 ghost use mathlib.Core.Path.{_≡_};
 ghost use Rattle.scope.specs.Sheet.{fieldCount};
@@ -17,6 +19,10 @@ ghost use Rattle.scope.specs.Reading.{read};
 ghost use Rattle.scope.specs.Parsing.{readText};
 ghost use Rattle.scope.specs.Program.{one};
 ghost use Rattle.scope.specs.Jobs as jobs;
+ghost use Rattle.scope.specs.Writing as writing;
+ghost use Rattle.scope.specs.Writing.{written};
+ghost use Rattle.sheet.specs.laws.Held.{counts};
+ghost use Rattle.writer.specs.Lent.{lent};
 ghost use Rattle.scope.specs.Jobs.{answered};
 ghost use Rattle.planner.specs.Figures.{resultOf, ratingOf, figures, ratingFigures};
 ghost use Rattle.planner.specs.laws.Listing.{listingInto, listingLength};
@@ -202,4 +208,41 @@ pub extern "C" fn comzsered_text_listing(text: &[u8], out: &mut [u8]) -> usize
     ensures { λ r. ⌜ (now (out .exit) ≡ listingInto (readText (now (text .entry))) (now (out .entry))) × (r ≡ listingLength (readText (now (text .entry))) (now (out .entry))) ⌝ }
 {
     print_text(text, out)
+}
+
+// A sheet from its tables.
+
+#[no_mangle]
+pub extern "C" fn comzsered_write(
+    switches: u32,
+    faults: u32,
+    gates: u32,
+    rules: u32,
+    wishes: u32,
+    kind: &[u8],
+    left: &[u32],
+    right: &[u32],
+    rule: &[u32],
+    first: &[u32],
+    second: &[u32],
+    third: &[u32],
+    out: &mut [u8],
+    place: &mut usize,
+    column: &mut usize,
+    length: &mut usize,
+) -> u32
+    ensures { λ r. ⌜ written r (now (place .exit)) (now (column .exit)) (now (length .exit)) (now (out .exit)) ≡ writing.write fieldCount (lent (counts switches faults gates rules wishes) (now (kind .entry)) (now (left .entry)) (now (right .entry)) (now (rule .entry)) (now (first .entry)) (now (second .entry)) (now (third .entry))) (now (out .entry)) ⌝ }
+{
+    let c = Counts {
+        switches,
+        faults,
+        gates,
+        rules,
+        wishes,
+    };
+    let w = write(kind, left, right, rule, first, second, third, c, out);
+    *place = w.place;
+    *column = w.column;
+    *length = w.length;
+    w.number
 }
