@@ -5,7 +5,8 @@
  * combination, rules that must hold whatever the faults are, and wishes about the switches. The
  * planner finds the setting of the switches that keeps every rule under every combination of faults
  * and breaks as few wishes as possible. The same can be typed as a text, for which there are calls of
- * their own. docs/FORMAT.md describes sheets, texts and every rule in full.
+ * their own. A further call writes a sheet from tables: counts, and arrays of points and literals that
+ * a program can edit. docs/FORMAT.md describes sheets, texts, tables and every rule in full.
  *
  * Link with target/staticlib/libplanner.a, which 'rt staticlib planner' builds:
  *
@@ -42,10 +43,32 @@
  *   32 deep at most. Each operator makes a gate, in the order in which the operators are complete.
  *   All jobs answer as for the sheet that the text stands for.
  *
+ * Tables
+ *
+ *   What a sheet says, as counts and arrays: how many switches, faults, gates, rules and wishes there
+ *   are, and an array for each word of a gate, a rule or a wish.
+ *
+ *    arrays                entry i, from 0, is                  its line on the sheet
+ *    --------------------  -----------------------------------  ----------------------
+ *    kind, left, right     gate i + 1: its letter 'N', 'A' or   N left 0 0
+ *                          'O', its first point and its         A left right 0
+ *                          second, which is 0 for 'N'           O left right 0
+ *    rule                  rule i + 1: its point                R rule 0 0
+ *    first, second, third  wish i + 1: three literals           W first second third
+ *
+ *   The literal k, switch k on, is the word 2k, and -k, switch k off, is 2k + 1. Zeros stand after the
+ *   last literal of a wish. The word 1, which would be -0, is no literal.
+ *
+ *   The sheet of the text above has 2 switches, 2 faults, 3 gates, 1 rule and 2 wishes, and the
+ *   arrays kind = O O O, left = 1 3 5, right = 2 4 6, rule = 7, first = 3 5, second = 0 0 and
+ *   third = 0 0.
+ *
+ *   An array may be longer than its count: what stands after the counted entries is not looked at.
+ *
  * The number
  *
- *   Answer, short run and rating return a number, and write a place and a column. All three are 0
- *   when the job is done. Lines, columns and bytes are counted from 1.
+ *   Answer, short run, rating and writing return a number, and write a place and a column. All three
+ *   are 0 when the job is done. Lines, columns and bytes are counted from 1.
  *
  *    number  cause                                                              place
  *    ------  -----------------------------------------------------------------  ----------------
@@ -59,7 +82,8 @@
  *         5  the line is gate 401, rule 65 or wish 65                           the line
  *         6  a point or literal is not allowed here, an unused field is not     the line
  *            0, or a literal follows a 0; of a text: there is no such switch
- *            or fault
+ *            or fault; of tables besides: no gate has this kind, or an array
+ *            is too short to hold the entry
  *         7  the count of lines on the Z line is wrong                          the line
  *         8  there is no plan: for answer over all patterns, for short run      0
  *            over the given ones
@@ -70,11 +94,16 @@
  *                                                                               from 1
  *        12  the text is longer than 16,384 bytes                               0
  *            the text is not legal                                              the byte
+ *        13  the buffer is shorter than the sheet to be written                 0
  *
  *   Numbers 1, 2, 3 and 7 are not for texts, and 12 is for nothing else. The byte of 12 is the one
  *   with which the text ceases to be the beginning of any text that is legal but for its length; if
  *   a text ends too early, it is the one after its last. The line of 5 is then rule 65, wish 65 or
  *   the rule with which there are more than 400 gates.
+ *
+ *   Tables are refused with 4, 5, 6 and 13 only, and 13 is for nothing else. The line of 4, 5 and 6 is
+ *   the one on which the entry would stand on the sheet: H is line 1, and gates, rules and wishes
+ *   follow in this order.
  *
  *   The column tells where the line of number 2 stops being the beginning of any well-formed line:
  *   it is the smallest c from 1 to 17 such that no well-formed line has the same first c bytes. An
@@ -84,17 +113,20 @@
  *
  *   The causes are tried in this order, and the first that applies is returned: 1 or 12; the lines
  *   from the first, each for 2 to 7; 10 or 11; 9; 8. So 9 comes before 8: a list that is too short for
- *   the search is told as 9 even where there is no plan.
+ *   the search is told as 9 even where there is no plan. Of tables the lines are tried from the first
+ *   too, each for 4, 5 and 6, and then 13. So 405 gates are 5 at line 402 if all before are right, and
+ *   6 at line 4 if gate 3 is wrong.
  *
  * What holds for every call
  *
- *   - Any bytes may be passed as a sheet or text, and any numbers: wrong ones are refused. Nothing is
- *     kept from one call to the next, and calls may be made from several threads at once.
+ *   - Any bytes may be passed as a sheet or text, and any numbers and words: wrong ones are refused.
+ *     Nothing is kept from one call to the next, and calls may be made from several threads at once.
  *   - No pointer may be null, also where the length beside it is 0.
  *   - The figures' pointers must be valid and point to different places. All figures are written in
  *     every case; those that the outcome does not name are 0.
- *   - Buffers do not overlap each other or the figures. Input and patterns are only read.
+ *   - Buffers do not overlap each other or the figures. Input, patterns and tables are only read.
  *   - The time grows with 2^a and 2^f: a sheet with many switches and faults may take very long.
+ *     Writing takes a time that grows with the lines alone.
  */
 #ifndef COMZSERED_H
 #define COMZSERED_H
@@ -200,6 +232,28 @@ uint32_t comzsered_text_rating(const uint8_t *text, size_t text_len, uint32_t pl
                                size_t *column, uint32_t *cost, uint32_t *sound, uint32_t *pattern,
                                size_t *length);
 size_t comzsered_text_listing(const uint8_t *text, size_t text_len, uint8_t *out, size_t out_len);
+
+/*
+ * Writing: tables as a sheet. switches to wishes are the counts, and the arrays are as told above, each
+ * with its own length. With COMZSERED_SHEET_MAX bytes for out there is no number 13.
+ *
+ *   returned     *length            out afterwards
+ *   -----------  -----------------  ---------------------------------------------------------------
+ *   0            that of the sheet  the sheet stands in the first *length bytes, the others untouched
+ *   4, 5, 6, 13  0                  untouched
+ *
+ * *place is as in the table of numbers, and *column is always 0.
+ *
+ * A sheet that was written is accepted, and reading it gives the tables again, up to their counts.
+ * The tables of an accepted sheet are written as that sheet, byte for byte.
+ */
+uint32_t comzsered_write(uint32_t switches, uint32_t faults, uint32_t gates, uint32_t rules,
+                         uint32_t wishes, const uint8_t *kind, size_t kind_len,
+                         const uint32_t *left, size_t left_len, const uint32_t *right,
+                         size_t right_len, const uint32_t *rule, size_t rule_len,
+                         const uint32_t *first, size_t first_len, const uint32_t *second,
+                         size_t second_len, const uint32_t *third, size_t third_len, uint8_t *out,
+                         size_t out_len, size_t *place, size_t *column, size_t *length);
 
 #ifdef __cplusplus
 }
