@@ -4,7 +4,7 @@
 //! figure, as tests do. `include/comzsered.h` describes them in full. A figure that an outcome does
 //! not name is 0.
 
-use crate::Input;
+use crate::{Input, Tables};
 
 /// The figures of Answer and Short run.
 #[derive(Clone, Copy, Debug, PartialEq, Eq)]
@@ -29,6 +29,15 @@ pub struct Rated {
     pub length: usize,
 }
 
+/// The figures of writing.
+#[derive(Clone, Copy, Debug, PartialEq, Eq)]
+pub struct Written {
+    pub number: u32,
+    pub place: usize,
+    pub column: usize,
+    pub length: usize,
+}
+
 // The library writes every figure in every case. Were it not to, these would show it.
 const NOT_FOUND: Found = Found {
     number: u32::MAX,
@@ -47,9 +56,15 @@ const NOT_RATED: Rated = Rated {
     pattern: u32::MAX,
     length: usize::MAX,
 };
+const NOT_WRITTEN: Written = Written {
+    number: u32::MAX,
+    place: usize::MAX,
+    column: usize::MAX,
+    length: usize::MAX,
+};
 
 /// The calls of the archive: each job has one for a sheet and one for a typed text, with the same
-/// arguments.
+/// arguments. Writing takes neither, so its call stands alone.
 mod archive {
     use crate::Input;
 
@@ -85,6 +100,35 @@ mod archive {
         rating: comzsered_rating, comzsered_text_rating,
             (u32, *mut usize, *mut usize, *mut u32, *mut u32, *mut u32, *mut usize) -> u32;
         listing: comzsered_listing, comzsered_text_listing, (*mut u8, usize) -> usize;
+    }
+
+    extern "C" {
+        pub fn comzsered_write(
+            switches: u32,
+            faults: u32,
+            gates: u32,
+            rules: u32,
+            wishes: u32,
+            kind: *const u8,
+            kind_len: usize,
+            left: *const u32,
+            left_len: usize,
+            right: *const u32,
+            right_len: usize,
+            rule: *const u32,
+            rule_len: usize,
+            first: *const u32,
+            first_len: usize,
+            second: *const u32,
+            second_len: usize,
+            third: *const u32,
+            third_len: usize,
+            out: *mut u8,
+            out_len: usize,
+            place: *mut usize,
+            column: *mut usize,
+            length: *mut usize,
+        ) -> u32;
     }
 }
 
@@ -161,4 +205,40 @@ pub fn listing<'a>(input: impl Into<Input<'a>>, out: &mut [u8]) -> usize {
     let (bytes, call) = archive::listing(input.into());
     // SAFETY: as above.
     unsafe { call(bytes.as_ptr(), bytes.len(), out.as_mut_ptr(), out.len()) }
+}
+
+/// Writing of these tables. After number 0 the sheet stands in the first `length` bytes of `out`, and
+/// the others are as they were; after any other number all of them are.
+pub fn write(tables: &Tables, out: &mut [u8]) -> Written {
+    let mut written = NOT_WRITTEN;
+    // SAFETY: as above.
+    written.number = unsafe {
+        archive::comzsered_write(
+            tables.switches,
+            tables.faults,
+            tables.gates,
+            tables.rules,
+            tables.wishes,
+            tables.kind.as_ptr(),
+            tables.kind.len(),
+            tables.left.as_ptr(),
+            tables.left.len(),
+            tables.right.as_ptr(),
+            tables.right.len(),
+            tables.rule.as_ptr(),
+            tables.rule.len(),
+            tables.first.as_ptr(),
+            tables.first.len(),
+            tables.second.as_ptr(),
+            tables.second.len(),
+            tables.third.as_ptr(),
+            tables.third.len(),
+            out.as_mut_ptr(),
+            out.len(),
+            &mut written.place,
+            &mut written.column,
+            &mut written.length,
+        )
+    };
+    written
 }

@@ -3,8 +3,9 @@
 //! A planning sheet tells of switches that are set once, faults that may then occur in any
 //! combination, rules that must hold whatever the faults are, and wishes about the switches. The
 //! planner finds the plan, a setting of all switches, that keeps every rule under every pattern of
-//! faults and breaks as few wishes as possible. The same can be typed as a text. The repository's
-//! `docs/FORMAT.md` describes sheets, texts and every rule in full.
+//! faults and breaks as few wishes as possible. The same can be typed as a text, and a sheet can be
+//! written from tables. The repository's `docs/FORMAT.md` describes sheets, texts, tables and every
+//! rule in full.
 //!
 //! | Job | Function | Gives |
 //! |---|---|---|
@@ -12,6 +13,7 @@
 //! | Short run | [`short_run`] | the best plan that passes some given patterns |
 //! | Rating | [`rating`] | the cost of a plan, and whether it passes every pattern |
 //! | Listing | [`listing`] | the answer in lines of text, as the programs `plan` and `typed` print it |
+//! | Writing | [`write`] | the sheet of some [`Tables`] |
 //!
 //! In this sheet one of two switches or two faults must be true, and both switches are wished to be
 //! off:
@@ -67,7 +69,7 @@ use std::fmt;
 
 pub mod figures;
 
-use figures::{Found, Rated};
+use figures::{Found, Rated, Written};
 
 /// What the jobs are done for: a planning sheet, or a typed text that stands for one.
 #[derive(Clone, Copy, Debug, PartialEq, Eq)]
@@ -83,7 +85,7 @@ impl<'a, T: AsRef<[u8]> + ?Sized> From<&'a T> for Input<'a> {
     }
 }
 
-/// The bytes of the longest sheet.
+/// The bytes of the longest sheet. With so many, no writing ends in refusal 13.
 pub const SHEET_MAX: usize = 9_010;
 /// The bytes of the longest typed text.
 pub const TEXT_MAX: usize = 16_384;
@@ -129,7 +131,50 @@ fn digit(number: u32, k: u32, digits: u32) -> bool {
     number >> (digits - k) & 1 == 1
 }
 
-/// Why a sheet, a text or a call is turned down: the number of the refusal, and where its cause is.
+/// What a sheet says, as [`write`] takes it: how many switches, faults, gates, rules and wishes there
+/// are, and a slice for each word of a gate, a rule or a wish.
+///
+/// | Slices | Entry i, from 0, is |
+/// |---|---|
+/// | `kind`, `left`, `right` | gate i + 1: its letter `N`, `A` or `O`, its first point, and its second, which is 0 for `N` |
+/// | `rule` | rule i + 1: its point |
+/// | `first`, `second`, `third` | wish i + 1: up to three literals as [`literal`] has them, then zeros |
+///
+/// A slice may be longer than its count: what stands after the counted entries is not looked at.
+#[derive(Clone, Copy, Debug, Default, PartialEq, Eq)]
+pub struct Tables<'a> {
+    pub switches: u32,
+    pub faults: u32,
+    pub gates: u32,
+    pub rules: u32,
+    pub wishes: u32,
+    pub kind: &'a [u8],
+    pub left: &'a [u32],
+    pub right: &'a [u32],
+    pub rule: &'a [u32],
+    pub first: &'a [u32],
+    pub second: &'a [u32],
+    pub third: &'a [u32],
+}
+
+/// The word of a literal in [`Tables`]: 2k for switch k on, 2k + 1 for switch k off. Where a wish has
+/// no literal the word is 0.
+///
+/// ```
+/// use comzsered::literal;
+///
+/// assert_eq!([literal(3, true), literal(3, false)], [6, 7]);
+/// ```
+///
+/// # Panics
+///
+/// If the switch is 0 or its word does not fit into 32 bits.
+pub const fn literal(switch: u32, on: bool) -> u32 {
+    assert!(1 <= switch && switch <= u32::MAX / 2);
+    2 * switch + !on as u32
+}
+
+/// Why a sheet, a text, tables or a call is turned down: the number of the refusal, and where its cause is.
 ///
 /// ```
 /// use comzsered::{answer, Answer};
@@ -170,6 +215,9 @@ fn digit(number: u32, k: u32, digits: u32) -> bool {
 /// assert_eq!((refusal.number, refusal.place, refusal.column), (12, 20, 0));
 /// assert_eq!(refusal.to_string(), "byte 20: no legal text goes on like this");
 /// ```
+///
+/// Of tables, 4, 5 and 6 tell the line on which the entry would stand on the sheet, and 13 is for
+/// them alone: see [`write`].
 #[derive(Clone, Copy, Debug, PartialEq, Eq, Hash)]
 pub struct Refusal {
     pub number: u32,
@@ -204,6 +252,7 @@ impl fmt::Display for Refusal {
             11 => "the pattern has more binary digits than there are faults",
             12 if place == 0 => "the text is longer than 16,384 bytes",
             12 => "no legal text goes on like this",
+            13 => "the sheet is longer than the room lent for it",
             _ => return write!(f, "refused with number {number}, place {place}"),
         };
         match number {
@@ -314,6 +363,19 @@ impl From<Rated> for Rating {
     }
 }
 
+impl From<Written> for Result<usize, Refusal> {
+    fn from(written: Written) -> Result<usize, Refusal> {
+        match written.number {
+            0 => Ok(written.length),
+            number => Err(Refusal {
+                number,
+                place: written.place,
+                column: written.column,
+            }),
+        }
+    }
+}
+
 /// The best sound plan of a sheet or text. The patterns that the search needed, in the order in which it
 /// met them, are written to the beginning of `list`, which may have any length and content.
 pub fn answer<'a>(input: impl Into<Input<'a>>, list: &mut [u32]) -> Answer {
@@ -371,6 +433,58 @@ pub fn listing<'a>(input: impl Into<Input<'a>>) -> Vec<u8> {
     let length = figures::listing(input, &mut out);
     out.truncate(length);
     out
+}
+
+/// Writes the sheet of these tables into the beginning of `out`, and returns its length. The bytes
+/// after it are as they were, and on a refusal all of them are.
+///
+/// The tables are tested as a sheet's lines are, the line of an entry being that on which it would
+/// stand. A sheet that was written is accepted, and reading it gives the tables again, up to their
+/// counts; the tables of an accepted sheet are written as that sheet.
+///
+/// ```
+/// use comzsered::{answer, literal, write, Answer, Plan, Tables, SHEET_MAX};
+///
+/// // One of two switches must be on, and both are wished to be off.
+/// let mut tables = Tables {
+///     switches: 2,
+///     gates: 1,
+///     rules: 1,
+///     wishes: 2,
+///     kind: b"O",
+///     left: &[1],
+///     right: &[2],
+///     rule: &[3],
+///     first: &[literal(1, false), literal(2, false)],
+///     second: &[0, 0],
+///     third: &[0, 0],
+///     ..Tables::default()
+/// };
+/// let mut out = [0; SHEET_MAX];
+/// let length = write(&tables, &mut out).unwrap();
+/// let sheet = b"\
+/// H    2    0    0\n\
+/// O    1    2    0\n\
+/// R    3    0    0\n\
+/// W   -1    0    0\n\
+/// W   -2    0    0\n\
+/// Z    5    0    0\n";
+/// assert_eq!(out[..length], sheet[..]);
+/// let plan = Answer::Plan { plan: Plan(1), cost: 1, patterns: 1 };
+/// assert_eq!(answer(&out[..length], &mut [0; 1]), plan);
+///
+/// // One byte too little room.
+/// let refusal = write(&tables, &mut out[..length - 1]).unwrap_err();
+/// assert_eq!((refusal.number, refusal.place), (13, 0));
+/// assert_eq!(refusal.to_string(), "the sheet is longer than the room lent for it");
+///
+/// // Point 4 is not on the sheet, and the rule would stand on line 3.
+/// tables.rule = &[4];
+/// let refusal = write(&tables, &mut out).unwrap_err();
+/// assert_eq!((refusal.number, refusal.place), (6, 3));
+/// ```
+pub fn write(tables: &Tables, out: &mut [u8]) -> Result<usize, Refusal> {
+    figures::write(tables, out).into()
 }
 
 #[cfg(test)]
@@ -552,7 +666,7 @@ Z    6    0    0
     /// Each number of Answer and Short run becomes one case and loses no figure of it.
     #[test]
     fn every_number_of_a_search() {
-        for number in 0..=13 {
+        for number in 0..=14 {
             let found = Found {
                 number,
                 place: 5,
@@ -583,7 +697,7 @@ Z    6    0    0
 
     #[test]
     fn every_number_of_a_rating() {
-        for number in 0..=13 {
+        for number in 0..=14 {
             let rated = |sound| Rated {
                 number,
                 place: 5,
@@ -627,9 +741,101 @@ Z    6    0    0
         assert!(said(11, 3).starts_with("pattern 3 of the given ones: "));
         assert_eq!(said(12, 57), "byte 57: no legal text goes on like this");
         assert_eq!(said(12, 0), "the text is longer than 16,384 bytes");
+        assert!(!said(13, 0).contains('0'));
         assert_eq!(said(99, 4), "refused with number 99, place 4");
-        let all: std::collections::BTreeSet<String> = (1..=13).map(|n| said(n, 1)).collect();
-        assert_eq!(all.len(), 13);
+        let all: std::collections::BTreeSet<String> = (1..=14).map(|n| said(n, 1)).collect();
+        assert_eq!(all.len(), 14);
+    }
+
+    /// The tables of [`SAMPLE`], with words after the counted ones.
+    const TABLES: Tables = Tables {
+        switches: 2,
+        faults: 2,
+        gates: 3,
+        rules: 1,
+        wishes: 2,
+        kind: b"OOO?",
+        left: &[1, 3, 5, 77],
+        right: &[2, 4, 6],
+        rule: &[7, 0],
+        first: &[literal(1, false), literal(2, false), 1],
+        second: &[0, 0],
+        third: &[0, 0, 4],
+    };
+
+    #[test]
+    fn tables() {
+        let sheet = sheet(SAMPLE);
+        let need = sheet.len();
+        let mut out = vec![77; need + 4];
+        assert_eq!(write(&TABLES, &mut out), Ok(need));
+        assert_eq!(out[..need], sheet);
+        assert_eq!(out[need..], [77; 4]);
+        out.fill(77);
+        assert_eq!(write(&TABLES, &mut out[..need]), Ok(need));
+        assert_eq!(out[..need], sheet);
+    }
+
+    #[test]
+    fn refused_tables() {
+        let mut out = [77; SHEET_MAX];
+        // The sizes, a word of each kind, each slice too short for its count, a limit passed.
+        #[rustfmt::skip]
+        let cases = [
+            (Tables { switches: 21, ..TABLES }, 4, 1),
+            (Tables { faults: 17, ..TABLES }, 4, 1),
+            (Tables { kind: b"OOo", ..TABLES }, 6, 4),
+            (Tables { kind: b"ON", ..TABLES }, 6, 3),
+            (Tables { kind: b"OO", ..TABLES }, 6, 4),
+            (Tables { left: &[1, 3], ..TABLES }, 6, 4),
+            (Tables { right: &[], ..TABLES }, 6, 2),
+            (Tables { right: &[2, 4, 7], ..TABLES }, 6, 4),
+            (Tables { rules: u32::MAX, rule: &[7; 65], ..TABLES }, 5, 69),
+            (Tables { rule: &[8], ..TABLES }, 6, 5),
+            (Tables { rule: &[], ..TABLES }, 6, 5),
+            (Tables { first: &[1, 2], ..TABLES }, 6, 6),
+            (Tables { first: &[2], ..TABLES }, 6, 7),
+            (Tables { second: &[0, 6], ..TABLES }, 6, 7),
+            (Tables { second: &[0], ..TABLES }, 6, 7),
+            (Tables { third: &[0, 2], ..TABLES }, 6, 7),
+            (Tables { third: &[], ..TABLES }, 6, 6),
+        ];
+        for (tables, number, place) in cases {
+            let refusal = Err(refused(number, place));
+            assert_eq!(write(&tables, &mut out), refusal, "{tables:?}");
+            // Want of room is told last.
+            assert_eq!(write(&tables, &mut []), refusal, "{tables:?}");
+        }
+        let need = sheet(SAMPLE).len();
+        for room in [0, 1, need - 1] {
+            assert_eq!(write(&TABLES, &mut out[..room]), Err(refused(13, 0)));
+        }
+        assert_eq!(out, [77; SHEET_MAX]);
+    }
+
+    /// Each number of writing becomes one case and loses no figure of it.
+    #[test]
+    fn every_number_of_writing() {
+        for number in 0..=14 {
+            let written = Written {
+                number,
+                place: 5,
+                column: 9,
+                length: 8,
+            };
+            let expected = match number {
+                0 => Ok(8),
+                _ => Err(refused_at(number, 5, 9)),
+            };
+            assert_eq!(<Result<usize, Refusal>>::from(written), expected);
+        }
+    }
+
+    #[test]
+    fn literals() {
+        assert_eq!([literal(1, true), literal(1, false)], [2, 3]);
+        assert_eq!(literal(u32::MAX / 2, false), u32::MAX);
+        assert!(std::panic::catch_unwind(|| literal(0, true)).is_err());
     }
 
     #[test]
