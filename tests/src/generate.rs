@@ -161,7 +161,7 @@ fn any_counts(r: &mut Random) -> Counts {
 }
 
 /// A number from 0 to the limit, its ends more often than the others.
-fn size(r: &mut Random, limit: i32) -> i32 {
+pub(crate) fn size(r: &mut Random, limit: i32) -> i32 {
     match r.below(6) {
         0 => 0,
         1 => 1,
@@ -172,7 +172,7 @@ fn size(r: &mut Random, limit: i32) -> i32 {
 }
 
 /// A point from 1 to the last one; the last, and a low one, more often than the others.
-fn point(r: &mut Random, last: i32) -> i32 {
+pub(crate) fn point(r: &mut Random, last: i32) -> i32 {
     match r.below(5) {
         0 => last,
         1 => r.between(1, last.min(3)),

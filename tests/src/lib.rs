@@ -11,6 +11,7 @@ pub mod oracle;
 pub mod planning;
 pub mod process;
 pub mod typed;
+pub mod writing;
 
 /// The sample sheet of docs/FORMAT.md.
 pub const SAMPLE: &str = "\

@@ -1,0 +1,316 @@
+//! Compares the proved library's writer with the second one: many tables, right and damaged, each with
+//! many lengths of the buffer, and both ways round between tables and sheets.
+//!
+//! Usage: compare-writer [--seconds T] [--count N] [--seed S] [--index I] [--trace 1]
+//!
+//! It stops after N tables or T seconds, whichever comes first. Without --seed it takes the tables of
+//! all fixed seeds and of a fresh one in turn. With --index it tries those tables of each seed alone
+//! and shows them. With --trace tables are named before they are tried: so those that the library
+//! does not survive can be found.
+
+use std::collections::BTreeMap;
+use std::hint::black_box;
+use std::process::ExitCode;
+use std::time::{Duration, Instant};
+
+use comzsered::figures;
+use planner_tests::brute::{BAD_PLAN, NO_PLAN, NO_ROOM};
+use planner_tests::generate::Random;
+use planner_tests::options::Options;
+use planner_tests::oracle::{self, BAD_FIELD, BAD_SIZE, MAX_BYTES, TOO_MANY};
+use planner_tests::planning::light;
+use planner_tests::writing::check::{with_more_behind, Trial};
+use planner_tests::writing::generate::{kinds, made_tables, Made};
+use planner_tests::writing::{cases, put, sheet, Tables, Written, TOO_SHORT};
+
+/// Tables and seconds at most, unless the options say otherwise.
+const TABLES: u64 = 80_000;
+const SECONDS: u64 = 60;
+/// Fewer tables than this, without options, are a failure: the machine or the library is too slow for
+/// the comparison to say much.
+const FEWEST: u64 = 10_000;
+const STOP_AFTER: u64 = 20;
+
+const USAGE: &str =
+    "usage: compare-writer [--seconds T] [--count N] [--seed S] [--index I] [--trace 1]";
+
+fn main() -> ExitCode {
+    let names = ["--seconds", "--count", "--seed", "--index", "--trace"];
+    let options = Options::from_command_line(&names).filter(|o| o.words.is_empty());
+    let Some(options) = options else {
+        eprintln!("{USAGE}");
+        println!("0 passed, 1 failed");
+        return ExitCode::FAILURE;
+    };
+    let mut total = Total::default();
+    by_hand(&mut total);
+    match options.number("--index") {
+        Some(index) => {
+            for seed in options.seeds() {
+                println!("{}", described(seed, index));
+                try_tables(seed, index, &mut total);
+            }
+        }
+        None => many_tables(&options, &mut total),
+    }
+    println!("{} passed, {} failed", total.passed, total.failed);
+    if total.failed == 0 {
+        ExitCode::SUCCESS
+    } else {
+        ExitCode::FAILURE
+    }
+}
+
+/// What came of all tables and calls.
+#[derive(Default)]
+struct Total {
+    passed: u64,
+    failed: u64,
+    /// The writings with each number.
+    numbers: BTreeMap<u32, u64>,
+    /// The tables with each refusal, 5 and 6 by the part of the sheet, and those of each recipe.
+    outcomes: BTreeMap<String, u64>,
+    recipes: BTreeMap<&'static str, u64>,
+    /// Written sheets that were answered.
+    answered: u64,
+}
+
+impl Total {
+    fn count(&mut self, trouble: Option<&str>, name: impl FnOnce() -> String) {
+        match trouble {
+            None => self.passed += 1,
+            Some(text) => {
+                println!("FAIL: {}\n{text}", name());
+                self.failed += 1;
+            }
+        }
+    }
+}
+
+/// The library's writer, in the second writer's own type. The columns end before what stands behind
+/// them in memory.
+fn written(tables: &Tables, behind: &Tables, out: &mut [u8]) -> Written {
+    let lent = comzsered::Tables {
+        switches: tables.switches,
+        faults: tables.faults,
+        gates: tables.gates,
+        rules: tables.rules,
+        wishes: tables.wishes,
+        kind: &behind.kind[..tables.kind.len()],
+        left: &behind.left[..tables.left.len()],
+        right: &behind.right[..tables.right.len()],
+        rule: &behind.rule[..tables.rule.len()],
+        first: &behind.first[..tables.first.len()],
+        second: &behind.second[..tables.second.len()],
+        third: &behind.third[..tables.third.len()],
+    };
+    let got = figures::write(&lent, out);
+    Written {
+        number: got.number,
+        place: got.place,
+        column: got.column,
+        length: got.length,
+    }
+}
+
+// ---- tables with outcomes worked out by hand
+
+fn by_hand(total: &mut Total) {
+    const FILLING: u8 = b'?';
+    for case in cases::all() {
+        let expected = (case.written(), case.buffer(FILLING));
+        let mut out = vec![FILLING; case.room];
+        let second = (put(&sheet(&case.tables), &mut out), out);
+        let mut out = vec![FILLING; case.room];
+        let behind = with_more_behind(&case.tables);
+        let library = (written(&case.tables, &behind, &mut out), out);
+        let trouble = [("the second writer", second), ("the library", library)]
+            .iter()
+            .filter(|(_, got)| *got != expected)
+            .map(|(who, (figures, out))| {
+                let shown = out.escape_ascii();
+                format!("  {who}: {figures:?} {shown}\n  by hand: {:?}", expected.0)
+            })
+            .reduce(|all, next| all + "\n" + &next);
+        let name = format!("{}, room {}", case.why, case.room);
+        if trouble.is_none() {
+            println!("{name}: ok");
+        }
+        total.count(trouble.as_deref(), || name);
+    }
+}
+
+// ---- generated tables
+
+fn many_tables(options: &Options, total: &mut Total) {
+    let seeds = options.seeds();
+    let most = options.number("--count").unwrap_or(TABLES);
+    let seconds = options.number("--seconds").unwrap_or(SECONDS);
+    let trace = options.number("--trace").is_some();
+    let began = Instant::now();
+    let end = began + Duration::from_secs(seconds);
+    let mut tried = 0;
+    while tried < most && total.failed < STOP_AFTER && Instant::now() < end {
+        let seed = seeds[(tried % seeds.len() as u64) as usize];
+        let index = tried / seeds.len() as u64;
+        if trace {
+            println!("seed {seed}, index {index}");
+        }
+        try_tables(seed, index, total);
+        tried += 1;
+    }
+    let calls: u64 = total.numbers.values().sum();
+    println!(
+        "{tried} tables, written {calls} times in {:.1} seconds",
+        began.elapsed().as_secs_f64()
+    );
+    total.show();
+    if total.failed >= STOP_AFTER {
+        println!("stopped after {} failures", total.failed);
+        return;
+    }
+    if options.number("--seed").is_some() || options.number("--count").is_some() {
+        return;
+    }
+    if tried < FEWEST {
+        println!("FAIL: fewer than {FEWEST} tables were tried");
+        total.failed += 1;
+        return;
+    }
+    for text in total.too_rare() {
+        println!("FAIL: {text}");
+        total.failed += 1;
+    }
+}
+
+/// Everything that is tried with the tables of this seed and index.
+fn try_tables(seed: u64, index: u64, total: &mut Total) {
+    let made = made_tables(seed, index);
+    // Not the numbers that the tables were made from.
+    let trial = Trial::new(&mut Random::new(!seed, index), &made.tables);
+    let behind = with_more_behind(&made.tables);
+    let before = behind.clone();
+    let numbers = &mut total.numbers;
+    let mut trouble = trial.differs(&mut |out| {
+        let got = written(&made.tables, &behind, out);
+        *numbers.entry(got.number).or_default() += 1;
+        got
+    });
+    if trouble.is_none() && *black_box(&behind) != before {
+        trouble = Some("the tables, or what stands behind them, were changed".into());
+    }
+    if trouble.is_none() {
+        trouble = round_trip(&made, &behind, total);
+    }
+    *total.recipes.entry(made.kind).or_default() += 1;
+    let outcome = match &trial.outcome {
+        Ok(_) => "written".into(),
+        Err(refusal) => named(&made.tables, refusal.number, refusal.place),
+    };
+    *total.outcomes.entry(outcome).or_default() += 1;
+    total.count(trouble.as_deref(), || described(seed, index));
+}
+
+/// Both ways round, by what the library wrote: it is the sheet that the tables were read from, if
+/// there is one; the second reader makes the tables of it, up to their counts; and the library's own
+/// reader accepts it.
+fn round_trip(made: &Made, behind: &Tables, total: &mut Total) -> Option<String> {
+    let mut out = vec![0; MAX_BYTES];
+    let got = written(&made.tables, behind, &mut out);
+    let bytes = &out[..got.length.min(MAX_BYTES)];
+    if let Some(sheet) = &made.sheet {
+        if bytes != sheet {
+            return Some(format!(
+                "the sheet that the tables are of: {}",
+                sheet.escape_ascii()
+            ));
+        }
+    }
+    if got.number != 0 {
+        return None;
+    }
+    let said = made.tables.said();
+    let read = oracle::read(bytes);
+    if read.as_ref() != Ok(&said) {
+        return Some(format!("what was written is read as {read:?}"));
+    }
+    // The last refusal of Rating: it is told only if the sheet is accepted.
+    let rated = figures::rating(bytes, u32::MAX);
+    if rated.number != BAD_PLAN {
+        return Some(format!("a rating of what was written: {rated:?}"));
+    }
+    if light(&said) && said.switches + said.faults <= ANSWERED {
+        total.answered += 1;
+        let found = figures::answer(bytes, &mut [0; 4]);
+        if ![0, NO_PLAN, NO_ROOM].contains(&found.number) {
+            return Some(format!("an answer of what was written: {found:?}"));
+        }
+    }
+    None
+}
+
+/// The switches and faults of the sheets that are answered at most: others take too long here.
+const ANSWERED: u32 = 8;
+
+/// A refusal in words, with the part of the sheet that it names a line of.
+fn named(tables: &Tables, number: u32, place: usize) -> String {
+    if number == BAD_SIZE {
+        return format!("{number}");
+    }
+    let gates = 1 + tables.gates as usize;
+    let part = match place {
+        _ if place <= gates => "a gate",
+        _ if place <= gates + tables.rules as usize => "a rule",
+        _ => "a wish",
+    };
+    format!("{number} at {part}")
+}
+
+impl Total {
+    fn show(&self) {
+        println!("number  writings");
+        for (number, came) in &self.numbers {
+            println!("{number:>6}  {came:>8}");
+        }
+        for (outcome, tables) in &self.outcomes {
+            println!("{tables:>6} tables: {outcome}");
+        }
+        for (recipe, tables) in &self.recipes {
+            println!("{tables:>6} tables made by: {recipe}");
+        }
+        println!("written sheets answered: {}", self.answered);
+    }
+
+    /// What hardly came was hardly tested: each such outcome, in words.
+    fn too_rare(&self) -> Vec<String> {
+        let mut rare = Vec::new();
+        let mut at_least = |fewest: u64, came: Option<&u64>, what: String| {
+            let came = came.copied().unwrap_or(0);
+            if came < fewest {
+                rare.push(format!("{what} came {came} times, fewer than {fewest}"));
+            }
+        };
+        for number in [0, BAD_SIZE, TOO_MANY, BAD_FIELD, TOO_SHORT] {
+            let came = self.numbers.get(&number);
+            at_least(1_000, came, format!("number {number}"));
+        }
+        for number in [TOO_MANY, BAD_FIELD] {
+            for part in ["a gate", "a rule", "a wish"] {
+                let outcome = format!("{number} at {part}");
+                at_least(100, self.outcomes.get(&outcome), outcome);
+            }
+        }
+        for recipe in kinds() {
+            let came = self.recipes.get(recipe);
+            at_least(200, came, format!("tables made by '{recipe}'"));
+        }
+        at_least(1_000, Some(&self.answered), "a sheet answered".into());
+        rare
+    }
+}
+
+/// Tables with their seed and index.
+fn described(seed: u64, index: u64) -> String {
+    let Made { tables, kind, .. } = made_tables(seed, index);
+    format!("seed {seed}, index {index} ({kind}):\n  {tables:?}")
+}
