@@ -208,6 +208,17 @@ one_test "the C example is built" \
     gcc -std=c99 -O2 $warnings -I include examples/c/answer.c "$archive" -o "$work/answer"
 one_test "the C example" prints "$work/answer" examples/c/answer.expected
 
+# The example that writes takes no file.
+prints_alone() { # PROGRAM FILE
+    limited 60 "$1" >"$work/printed" 2>&1
+    echo "exit status $?" >>"$work/printed"
+    diff "$2" "$work/printed"
+}
+
+one_test "the C example that writes is built" \
+    gcc -std=c99 -O2 $warnings -I include examples/c/write.c "$archive" -o "$work/write"
+one_test "the C example that writes" prints_alone "$work/write" examples/c/write.expected
+
 bindings=$root/target/bindings
 one_test "the Rust example is built" in_folder bindings/rust \
     cargo build --offline --locked --target-dir "$bindings" --example answer
@@ -232,6 +243,7 @@ fi
 counted "the library against the brute force" limited 1200 "$built/release/compare-library"
 counted "the library against the brute force, typed texts" \
     limited 1200 "$built/release/compare-library" --texts 1
+counted "the library's writer against the second one" limited 1200 "$built/release/compare-writer"
 # The runs that end in 9 take the brute force too long.
 if [ -x "$plan" ]; then
     counted "plan against the brute force" \

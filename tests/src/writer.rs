@@ -19,7 +19,7 @@ use planner_tests::generate::Random;
 use planner_tests::options::Options;
 use planner_tests::oracle::{self, BAD_FIELD, BAD_SIZE, MAX_BYTES, TOO_MANY};
 use planner_tests::planning::light;
-use planner_tests::writing::check::{with_more_behind, Trial};
+use planner_tests::writing::check::{with_more_behind, Trial, GUARD};
 use planner_tests::writing::generate::{kinds, made_tables, Made};
 use planner_tests::writing::{cases, put, sheet, Tables, Written, TOO_SHORT};
 
@@ -118,12 +118,16 @@ fn written(tables: &Tables, behind: &Tables, out: &mut [u8]) -> Written {
 fn by_hand(total: &mut Total) {
     const FILLING: u8 = b'?';
     for case in cases::all() {
-        let expected = (case.written(), case.buffer(FILLING));
-        let mut out = vec![FILLING; case.room];
-        let second = (put(&sheet(&case.tables), &mut out), out);
-        let mut out = vec![FILLING; case.room];
+        let guard = [FILLING; GUARD];
+        let expected = (
+            case.written(),
+            [&guard[..], &case.buffer(FILLING), &guard].concat(),
+        );
         let behind = with_more_behind(&case.tables);
-        let library = (written(&case.tables, &behind, &mut out), out);
+        let second = lent(&expected.1, FILLING, |out| put(&sheet(&case.tables), out));
+        let library = lent(&expected.1, FILLING, |out| {
+            written(&case.tables, &behind, out)
+        });
         let trouble = [("the second writer", second), ("the library", library)]
             .iter()
             .filter(|(_, got)| *got != expected)
@@ -138,6 +142,14 @@ fn by_hand(total: &mut Total) {
         }
         total.count(trouble.as_deref(), || name);
     }
+}
+
+/// Lends a buffer, filled with this byte, within memory as long as this one. Returns what is told of
+/// it, and the whole of the memory.
+fn lent(like: &[u8], filling: u8, writer: impl FnOnce(&mut [u8]) -> Written) -> (Written, Vec<u8>) {
+    let mut out = vec![filling; like.len()];
+    let end = out.len() - GUARD;
+    (writer(&mut out[GUARD..end]), out)
 }
 
 // ---- generated tables

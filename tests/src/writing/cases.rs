@@ -129,6 +129,7 @@ const REFUSED: &[Refused] = &[
     ("kind shorter than the count", |t| t.kind.truncate(2), BAD_FIELD, 4),
     ("left shorter than the count", |t| t.left.truncate(1), BAD_FIELD, 3),
     ("right shorter than the count, at N", |t| t.right.truncate(0), BAD_FIELD, 2),
+    ("right shorter than the count, at O", |t| t.right.truncate(2), BAD_FIELD, 4),
     ("rule shorter than the count", |t| t.rule.truncate(1), BAD_FIELD, 6),
     ("first shorter than the count", |t| t.first.truncate(2), BAD_FIELD, 9),
     ("second shorter than the count", |t| t.second.truncate(1), BAD_FIELD, 8),
