@@ -11,6 +11,7 @@ mod stack;
 mod texts;
 mod typed;
 mod worker;
+mod writing;
 
 use std::env;
 use std::process::ExitCode;

@@ -10,7 +10,7 @@ use std::{env, fs};
 use comzsered::{figures, Input};
 use planner_tests::form::Form;
 
-use crate::agree::agree;
+use crate::agree::{agree, agree_on_tables};
 use crate::baseline;
 use crate::measure::{measure, median, Budget, Measured, FULL, QUICK};
 use crate::plot::{svg, Panel};
@@ -104,6 +104,7 @@ fn cells(row: &Row, m: &Measured) -> Vec<String> {
         Job::Answer => ("Answer", m.length.to_string()),
         Job::ShortRun(patterns) => ("Short run", patterns.len().to_string()),
         Job::Rating(_) => ("Rating", "-".to_string()),
+        Job::Write => ("Writing", "-".to_string()),
     };
     let other = |side| {
         m.of(side)
@@ -342,9 +343,11 @@ pub fn whole(quick: bool) -> Result<(), String> {
     let count = if quick { 2_000 } else { 20_000 };
     let sheets = agree(Form::Sheet, count)?;
     let texts = agree(Form::Text, count)?;
+    let tables = agree_on_tables(count)?;
     run.say(&format!(
         "Before the timing, both sides gave the same outcomes on {sheets} generated sheets, a quarter of them damaged, and \
-         on {texts} generated typed texts, four in ten of which are refused."
+         on {texts} generated typed texts, four in ten of which are refused, and wrote {tables} generated tables alike, \
+         seven in ten of which are refused."
     ));
     run.say("");
 

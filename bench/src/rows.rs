@@ -120,6 +120,8 @@ pub fn families(quick: bool) -> Vec<Row> {
     let mut rows = vec![
         Row::answer("smallest", sheets::empty(0, 0)),
         Row::new("reading alone", sheets::full(1), Job::Rating(1 << 20)).no_brute(),
+        Row::new("writing", sheets::lanes(1), Job::Write),
+        Row::new("writing", sheets::full(1), Job::Write),
         Row::reading("reading a typed text", texts::accepted(16_384)),
         Row::reading("typed text, refused with 5", texts::crowded(16_384)),
         Row::reading("typed text, refused with 12", texts::broken(16_384)),

@@ -9,11 +9,12 @@ use std::thread;
 use std::time::Duration;
 use std::{env, fs};
 
-use comzsered::figures::{self, Found, Rated};
+use comzsered::figures::{self, Found, Rated, Written};
 use comzsered::Input;
+use planner_tests::writing::{self as second_writer, Tables};
 use planner_tests::{brute, oracle, typed};
 
-use crate::baseline;
+use crate::{baseline, writing};
 
 #[derive(Clone, Copy, Debug, PartialEq, Eq)]
 pub enum Side {
@@ -50,6 +51,8 @@ pub enum Job {
     Answer,
     ShortRun(Vec<u32>),
     Rating(u32),
+    /// Writing of the sheet's tables, which are made before the time is taken.
+    Write,
 }
 
 #[derive(Clone)]
@@ -64,6 +67,28 @@ pub struct Case {
 enum Outcome {
     Found(Found),
     Rated(Rated),
+    Written(Written),
+}
+
+/// What the jobs are lent.
+struct Lent {
+    list: Vec<u32>,
+    tables: Tables,
+    out: Vec<u8>,
+}
+
+impl Lent {
+    fn new(case: &Case) -> Lent {
+        let tables = match case.job {
+            Job::Write => Tables::of(&oracle::read(&case.bytes).expect("an accepted sheet")),
+            _ => Tables::default(),
+        };
+        Lent {
+            list: vec![0; comzsered::LIST_MAX],
+            tables,
+            out: vec![0; comzsered::SHEET_MAX],
+        }
+    }
 }
 
 // ---- the child
@@ -81,6 +106,7 @@ impl Case {
         match &self.job {
             Job::Answer => write!(out, "answer")?,
             Job::Rating(plan) => write!(out, "rating {plan}")?,
+            Job::Write => write!(out, "write")?,
             Job::ShortRun(patterns) => {
                 write!(out, "short")?;
                 for pattern in patterns {
@@ -102,6 +128,7 @@ impl Case {
         let job = match job.as_str() {
             "answer" => Job::Answer,
             "rating" => Job::Rating(*numbers.first()?),
+            "write" => Job::Write,
             _ => Job::ShortRun(numbers),
         };
         line.clear();
@@ -118,21 +145,38 @@ impl Case {
 }
 
 /// Does the job once.
-fn work(side: Side, case: &Case, list: &mut Vec<u32>) -> Outcome {
+fn work(side: Side, case: &Case, lent: &mut Lent) -> Outcome {
     let input = black_box(case.input());
     let masks = side == Side::Masks;
+    let Lent { list, tables, out } = lent;
     match (&case.job, side) {
         (Job::Answer, Side::Ours) => Outcome::Found(figures::answer(input, list)),
         (Job::ShortRun(p), Side::Ours) => Outcome::Found(figures::short_run(input, p)),
         (Job::Rating(plan), Side::Ours) => Outcome::Rated(figures::rating(input, *plan)),
+        (Job::Write, Side::Ours) => {
+            Outcome::Written(figures::write(black_box(&writing::lent(tables)), out))
+        }
+        (Job::Write, Side::Brute) => Outcome::Written(write_brute(tables, out)),
         (_, Side::Brute) => run_brute(&case.job, input, list),
         (Job::Answer, _) => Outcome::Found(baseline::answer(input, list, masks)),
         (Job::ShortRun(p), _) => Outcome::Found(baseline::short_run(input, p, masks)),
         (Job::Rating(plan), _) => Outcome::Rated(baseline::rating(input, *plan)),
+        (Job::Write, _) => Outcome::Written(writing::write(black_box(&writing::lent(tables)), out)),
     }
 }
 
-fn run_brute(job: &Job, input: Input, list: &mut Vec<u32>) -> Outcome {
+/// The second writer of the tests.
+fn write_brute(tables: &Tables, out: &mut [u8]) -> Written {
+    let x = second_writer::put(&second_writer::sheet(tables), out);
+    Written {
+        number: x.number,
+        place: x.place,
+        column: x.column,
+        length: x.length,
+    }
+}
+
+fn run_brute(job: &Job, input: Input, list: &mut [u32]) -> Outcome {
     let found = |x: brute::Found| {
         Outcome::Found(Found {
             number: x.number,
@@ -168,6 +212,7 @@ fn run_brute(job: &Job, input: Input, list: &mut Vec<u32>) -> Outcome {
                 length: x.length,
             })
         }
+        Job::Write => unreachable!("no job of the planner"),
     }
 }
 
@@ -209,18 +254,19 @@ fn peak() -> u64 {
 pub fn serve(side: Side) -> Option<()> {
     let mut input = io::stdin().lock();
     let case = Case::receive(&mut input)?;
-    let mut list = vec![0; comzsered::LIST_MAX];
+    let mut lent = Lent::new(&case);
     for line in input.lines() {
         let times: u64 = line.ok()?.trim().parse().ok()?;
         let start = processor_nanos();
         for _ in 1..times {
-            black_box(work(side, &case, &mut list));
+            black_box(work(side, &case, &mut lent));
         }
-        let outcome = work(side, &case, &mut list);
+        let outcome = work(side, &case, &mut lent);
         let nanos = processor_nanos() - start;
         let (length, text) = match outcome {
-            Outcome::Found(x) => (x.length, format!("{x:?} {:?}", &list[..x.length])),
+            Outcome::Found(x) => (x.length, format!("{x:?} {:?}", &lent.list[..x.length])),
             Outcome::Rated(x) => (x.length, format!("{x:?}")),
+            Outcome::Written(x) => (x.length, format!("{x:?} {:?}", &lent.out[..x.length])),
         };
         println!("{nanos} {} {length} {text}", peak());
     }
