@@ -30,6 +30,8 @@ const SECONDS: u64 = 60;
 /// the comparison to say much.
 const FEWEST: u64 = 10_000;
 const STOP_AFTER: u64 = 20;
+/// The switches and faults of the sheets that are answered at most: others take too long here.
+const ANSWERED: u32 = 8;
 
 const USAGE: &str =
     "usage: compare-writer [--seconds T] [--count N] [--seed S] [--index I] [--trace 1]";
@@ -260,9 +262,6 @@ fn round_trip(made: &Made, behind: &Tables, total: &mut Total) -> Option<String>
     }
     None
 }
-
-/// The switches and faults of the sheets that are answered at most: others take too long here.
-const ANSWERED: u32 = 8;
 
 /// A refusal in words, with the part of the sheet that it names a line of.
 fn named(tables: &Tables, number: u32, place: usize) -> String {

@@ -1,7 +1,7 @@
 //! Tables for the comparison: right ones, tables damaged in many ways, and noise. Tables follow from
 //! their seed and index alone, so each can be made again.
 
-use super::Tables;
+use super::{Tables, COLUMNS_OF_WORDS};
 use crate::generate::{point, size, string, Random};
 use crate::oracle::{read, MAX_FAULTS, MAX_GATES, MAX_RULES, MAX_SWITCHES, MAX_WISHES};
 use crate::planning::planning_sheet;
@@ -9,6 +9,9 @@ use crate::planning::planning_sheet;
 const KINDS: &[u8] = b"NAO";
 /// Kinds that no gate has: the other letters of a sheet, and bytes beside those of gates.
 const NO_KINDS: &[u8] = b"HRWZBMP@ 0\n\0\x7f\xff\xce";
+
+/// The word that would be the literal -0.
+pub const MINUS_ZERO: u32 = 1;
 
 /// Tables, what they were made by and, if they are those of an accepted sheet, its bytes.
 pub struct Made {
@@ -148,14 +151,17 @@ fn near(r: &mut Random, word: u32) -> u32 {
     }
 }
 
-/// The switches and faults of the tables; sizes that damage made very large are cut.
+/// Sizes and counts that damage made larger are taken for this, so that sums of them have room.
+const LARGE: u32 = 1 << 20;
+
+/// The switches and faults of the tables.
 fn inputs(tables: &Tables) -> u32 {
-    tables.switches.min(1 << 20) + tables.faults.min(1 << 20)
+    tables.switches.min(LARGE) + tables.faults.min(LARGE)
 }
 
-/// The points of the tables, likewise.
+/// The points of the tables.
 fn points(tables: &Tables) -> u32 {
-    inputs(tables) + tables.gates.min(1 << 20)
+    inputs(tables) + tables.gates.min(LARGE)
 }
 
 /// One of so many entries; if there are more than may be, often the first too many.
@@ -167,11 +173,11 @@ fn entry(r: &mut Random, held: usize, most: usize) -> usize {
 }
 
 fn damage_gate(r: &mut Random, tables: &mut Tables) {
-    if tables.kind.is_empty() || tables.left.is_empty() || tables.right.is_empty() {
+    let [held, _, _] = tables.held();
+    if held == 0 {
         return;
     }
-    let [kinds, lefts, rights] = [tables.kind.len(), tables.left.len(), tables.right.len()];
-    let i = entry(r, kinds.min(lefts).min(rights), MAX_GATES);
+    let i = entry(r, held, MAX_GATES);
     let own = inputs(tables) + i as u32 + 1;
     let telling = [0, own + 1, own - 1, points(tables), 1];
     let word = match r.below(4) {
@@ -195,10 +201,11 @@ fn damage_gate(r: &mut Random, tables: &mut Tables) {
 }
 
 fn damage_rule(r: &mut Random, tables: &mut Tables) {
-    if tables.rule.is_empty() {
+    let [_, held, _] = tables.held();
+    if held == 0 {
         return;
     }
-    let i = entry(r, tables.rule.len(), MAX_RULES);
+    let i = entry(r, held, MAX_RULES);
     let last = points(tables);
     tables.rule[i] = match r.below(3) {
         0 => near(r, last),
@@ -207,27 +214,26 @@ fn damage_rule(r: &mut Random, tables: &mut Tables) {
 }
 
 fn damage_wish(r: &mut Random, tables: &mut Tables) {
-    let wishes = [&tables.first, &tables.second, &tables.third].map(Vec::len);
-    let held = wishes[0].min(wishes[1]).min(wishes[2]);
+    let [_, _, held] = tables.held();
     if held == 0 {
         return;
     }
     let i = entry(r, held, MAX_WISHES);
-    // -0, the literals of the last switch, those of one more, and one of the last fault.
-    let last = 2 * tables.switches.min(1 << 20);
+    // The literals of the last switch, those of one more, and one of the last fault.
+    let last = 2 * tables.switches.min(LARGE);
     let fault = 2 * inputs(tables);
-    let telling = [1, last, last + 1, last + 2, last + 3, fault, fault];
-    let words = [tables.first[i], tables.second[i], tables.third[i]];
+    let telling = [MINUS_ZERO, last, last + 1, last + 2, last + 3, fault, fault];
+    // Literals that are right, if there is a switch.
     let [a, b] = [2, 3].map(|lowest| lowest.max(last + r.below(2) as u32));
     let words = match r.below(14) {
         0 => [0, a, 0],
         1 => [0, 0, a],
         2 => [a, 0, b],
         3 => [0, a, b],
-        4 => [1, 0, 0],
-        5 => [a, b, 1],
+        4 => [MINUS_ZERO, 0, 0],
+        5 => [a, b, MINUS_ZERO],
         n => {
-            let mut words = words;
+            let mut words = [tables.first[i], tables.second[i], tables.third[i]];
             let word = match n {
                 6 => near(r, last),
                 _ => r.pick(&telling),
@@ -267,13 +273,12 @@ fn cut(r: &mut Random, tables: &mut Tables) {
         1 => r.below(length + 1),
         _ => length.saturating_sub(1),
     };
-    let column = r.below(7);
-    match column {
-        6 => {
+    match r.below(COLUMNS_OF_WORDS + 1) {
+        COLUMNS_OF_WORDS => {
             let length = shorter(r, tables.kind.len());
             tables.kind.truncate(length);
         }
-        _ => {
+        column => {
             let cut = &mut tables.columns()[column];
             cut.truncate(shorter(r, cut.len()));
         }
@@ -340,9 +345,12 @@ fn noise(r: &mut Random) -> Tables {
 
 // ---- putting it together
 
+type Recipe = fn(&mut Random) -> Tables;
+type Damage = fn(&mut Random, &mut Tables);
+
 /// What tables are made by, one after another by their index, so that each comes equally often.
 #[rustfmt::skip]
-const RECIPES: [(&str, fn(&mut Random) -> Tables); 15] = [
+const RECIPES: [(&str, Recipe); 15] = [
     ("right", right),
     ("right, and entries after the counted ones", |r| damaged(r, right, &[add_junk])),
     ("one gate", |r| damaged(r, with_entries, &[damage_gate])),
@@ -367,9 +375,7 @@ pub fn kinds() -> impl Iterator<Item = &'static str> {
     RECIPES.iter().map(|(name, _)| *name).chain([OF_SHEET])
 }
 
-type Damage = fn(&mut Random, &mut Tables);
-
-fn damaged(r: &mut Random, from: fn(&mut Random) -> Tables, damages: &[Damage]) -> Tables {
+fn damaged(r: &mut Random, from: Recipe, damages: &[Damage]) -> Tables {
     let mut tables = from(r);
     for damage in damages {
         damage(r, &mut tables);
@@ -389,7 +395,7 @@ fn several(r: &mut Random) -> Tables {
         add_junk,
         cut,
     ];
-    let from = r.pick(&[right, with_entries, with_entries, beyond]);
+    let from: Recipe = r.pick(&[right, with_entries, with_entries, beyond]);
     let damages: Vec<Damage> = (0..2 + r.below(3)).map(|_| r.pick(&DAMAGES)).collect();
     damaged(r, from, &damages)
 }

@@ -32,6 +32,9 @@ pub struct Tables {
     pub third: Vec<u32>,
 }
 
+/// The columns of tables but for `kind`.
+const COLUMNS_OF_WORDS: usize = 6;
+
 /// What writing returns.
 #[derive(Clone, Copy, Debug, Default, PartialEq, Eq)]
 pub struct Written {
@@ -52,13 +55,16 @@ fn refuse<T>(number: u32, place: usize) -> Result<T, Refusal> {
     })
 }
 
+/// Makes the line of an entry, counted from 0; none if the entry is not all there or not allowed.
+type Entry = fn(&Tables, usize) -> Option<String>;
+
 /// The sheet of these tables. A line is tested where it would stand: after those before it.
 pub fn sheet(tables: &Tables) -> Outcome {
     if tables.switches > MAX_SWITCHES as u32 || tables.faults > MAX_FAULTS as u32 {
         return refuse(BAD_SIZE, 1);
     }
     let mut lines = vec![line('H', [tables.switches as i32, tables.faults as i32, 0])];
-    let parts: [(u32, usize, fn(&Tables, usize) -> Option<String>); 3] = [
+    let parts: [(u32, usize, Entry); 3] = [
         (tables.gates, MAX_GATES, gate),
         (tables.rules, MAX_RULES, rule),
         (tables.wishes, MAX_WISHES, wish),
@@ -83,7 +89,6 @@ fn line(letter: char, [first, second, third]: [i32; 3]) -> String {
     format!("{letter}{first:>COLUMNS$}{second:>COLUMNS$}{third:>COLUMNS$}\n")
 }
 
-/// The line of gate i, counted from 0; none if it is not all there or not allowed.
 fn gate(tables: &Tables, i: usize) -> Option<String> {
     let kind = *tables.kind.get(i)?;
     let (left, right) = (*tables.left.get(i)?, *tables.right.get(i)?);
@@ -97,7 +102,7 @@ fn gate(tables: &Tables, i: usize) -> Option<String> {
     allowed.then(|| line(kind.into(), [left as i32, right as i32, 0]))
 }
 
-/// The line of a rule, likewise. All gates stand before it.
+/// All gates stand before a rule.
 fn rule(tables: &Tables, i: usize) -> Option<String> {
     let point = *tables.rule.get(i)?;
     let points = 1..=tables.switches + tables.faults + tables.gates;
@@ -105,7 +110,6 @@ fn rule(tables: &Tables, i: usize) -> Option<String> {
     allowed.then(|| line('R', [point as i32, 0, 0]))
 }
 
-/// The line of a wish, likewise.
 fn wish(tables: &Tables, i: usize) -> Option<String> {
     let literal = |column: &[u32]| match *column.get(i)? {
         0 => Some(0),
@@ -125,7 +129,7 @@ fn literals(switches: u32) -> impl Iterator<Item = i32> {
     (1..=switches as i32).flat_map(|k| [k, -k])
 }
 
-/// The word of a literal: k is 2k, and -k is 2k + 1.
+/// The word of a literal: k is 2k, and -k is 2k + 1. So none has the word 1, which would be -0.
 fn word_of(literal: i32) -> u32 {
     2 * literal.unsigned_abs() + u32::from(literal < 0)
 }
@@ -209,8 +213,18 @@ impl Tables {
         }
     }
 
-    /// The words of a column, all but `kind`, in the order in which the call takes them.
-    fn columns(&mut self) -> [&mut Vec<u32>; 6] {
+    /// How many gates, rules and wishes the columns hold.
+    fn held(&self) -> [usize; 3] {
+        let shortest = |columns: &[usize]| columns.iter().min().copied().unwrap_or(0);
+        [
+            shortest(&[self.kind.len(), self.left.len(), self.right.len()]),
+            self.rule.len(),
+            shortest(&[self.first.len(), self.second.len(), self.third.len()]),
+        ]
+    }
+
+    /// The columns of words, which are all but `kind`, in the order in which the call takes them.
+    fn columns(&mut self) -> [&mut Vec<u32>; COLUMNS_OF_WORDS] {
         [
             &mut self.left,
             &mut self.right,

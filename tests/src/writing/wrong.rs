@@ -2,7 +2,7 @@
 //! shows it.
 
 use super::check::Trial;
-use super::generate::made_tables;
+use super::generate::{made_tables, MINUS_ZERO};
 use super::{gate, line, put, refuse, rule, sheet, wish, Outcome, Tables, Written, TOO_SHORT};
 use crate::generate::Random;
 use crate::oracle::{
@@ -39,7 +39,9 @@ const WRONG: [Wrong; 24] = [
             }
         }
     })),
-    tested("-0 taken for no literal", |t| changed(t, |t| each_literal(t, |_, word| if word == 1 { 0 } else { word }))),
+    tested("-0 taken for no literal", |t| changed(t, |t| each_literal(t, |_, word| {
+        if word == MINUS_ZERO { 0 } else { word }
+    }))),
     tested("a literal after a 0 let through", |t| changed(t, literals_first)),
     tested("a fault let through as a switch", |t| changed(t, |t| each_literal(t, |t, word| {
         let inputs = t.switches.saturating_add(t.faults);
@@ -65,9 +67,8 @@ const WRONG: [Wrong; 24] = [
         (t.gates, t.rules, t.wishes) = (t.kind.len() as u32, t.rule.len() as u32, t.first.len() as u32);
     })),
     tested("the count cut to what the columns hold", |t| changed(t, |t| {
-        t.gates = shortest(t.gates, &[t.kind.len(), t.left.len(), t.right.len()]);
-        t.rules = shortest(t.rules, &[t.rule.len()]);
-        t.wishes = shortest(t.wishes, &[t.first.len(), t.second.len(), t.third.len()]);
+        let [gates, rules, wishes] = t.held().map(|n| n as u32);
+        (t.gates, t.rules, t.wishes) = (t.gates.min(gates), t.rules.min(rules), t.wishes.min(wishes));
     })),
     tested("counts of 16 bits", |t| changed(t, |t| {
         for count in [&mut t.gates, &mut t.rules, &mut t.wishes] {
@@ -154,16 +155,12 @@ fn each_literal(tables: &mut Tables, change: fn(&Tables, u32) -> u32) {
 }
 
 fn literals_first(tables: &mut Tables) {
-    let held = [&tables.first, &tables.second, &tables.third].map(Vec::len);
-    for i in 0..held[0].min(held[1]).min(held[2]) {
+    let [_, _, held] = tables.held();
+    for i in 0..held {
         let mut words = [tables.first[i], tables.second[i], tables.third[i]];
         words.sort_by_key(|&word| word == 0);
         [tables.first[i], tables.second[i], tables.third[i]] = words;
     }
-}
-
-fn shortest(count: u32, lengths: &[usize]) -> u32 {
-    lengths.iter().fold(count, |least, &n| least.min(n as u32))
 }
 
 fn limits_first(tables: &Tables) -> Outcome {
