@@ -2,7 +2,7 @@
 use Prim.Native.Nat.{ℕ, _+_, _-_, _≤_, _<_}
 use mathlib.Core.Bool.{true, false, cond}
 use mathlib.Core.List.{List, [], _∷_, _++_, map, List·Memᴰ, Perm}
-use mathlib.Core.Logic.{_↔_}
+use mathlib.Core.Logic.{_↔_, _≢_}
 use mathlib.Core.Option.{none, some}
 use mathlib.Core.Path.{_≡_, refl, sym, ap, _∙_}
 use Rattle.scope.specs.Sheet.{Number, number, field, fits, Line, Clause, Gate, Sheet, sheet, sheetBytes, fieldCount, All, Valid}
@@ -142,6 +142,19 @@ tables-read = tableReads.tables-iff
 -- they are refused by 4, 5 or 6, and 4 names line 1
 pub tables-refusal : (n : ℕ) (u : Tables) {c place column : ℕ} → TablesRead n u (refused c place column) → TablesRefusal c place column
 tables-refusal = tableReads.refusal-number
+
+-- a refusal returns the length 0 and changes no byte of the buffer
+pub write-refused : (n : ℕ) (u : Tables) (out : List ℕ) → write n u out .number ≢ 0 → (write n u out .length ≡ 0) × (write n u out .buffer ≡ out)
+unfolding write
+write-refused n u out = tableReads.refused-kept n (readTables n u) out
+
+-- 13 comes last: exactly if the tables hold a valid sheet, and the buffer is shorter
+pub write-room : (n : ℕ) → 3 ≤ n → (u : Tables) (out : List ℕ) → (write n u out .number ≡ 13) ↔ ((t : Sheet) × Holds u t × Valid t × (length out < length (sheetBytes n t)))
+unfolding write
+write-room n wide u out = (
+  tableReads.no-room n u out (tables-read n wide u (readTables n u) .0 refl),
+  λ (t, h, v, l). rw (tables-read n wide u (accepted t) .1 (writing.accepted h v), tableReads.left-out n t out l),
+)
 
 -- reading a written sheet gives those tables, up to their counts
 pub written-read : (n : ℕ) → 3 ≤ n → (u : Tables) (out : List ℕ) → write n u out .number ≡ 0 → (t : Sheet) × Holds u t × (read n (take (write n u out .length) (write n u out .buffer)) ≡ accepted t)

@@ -11,6 +11,8 @@ use crate::field::FIELD_SIZE;
 use crate::field::Number;
 
 pub const MOST_FIELDS: usize = 4;
+// the fields of a line as sheets have it now
+pub const FIELD_COUNT: usize = 3;
 
 pub const HEAD: u8 = b'H';
 
@@ -51,6 +53,14 @@ pub struct Line {
     // where the line, its letter being column 1, stops being the beginning of any; 0 if it is formed
     pub column: usize,
     pub numbers: [Number; MOST_FIELDS],
+}
+
+// The bytes of a line of n fields.
+pub fn line_size(n: usize) -> usize
+    requires { ⌜ n ≤ 4 ⌝ }
+    ensures { λ r. ⌜ r ≡ lineSize n ⌝ }
+{
+    1 + n * FIELD_SIZE + 1
 }
 
 fn letter_of(b: u8) -> Letter

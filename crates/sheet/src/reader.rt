@@ -14,9 +14,9 @@ ghost use Rattle.sheet.specs.Steps.{Counted, WishColumns, Held, Room, Si
 use crate::allowed::MOST_LITERALS;
 use crate::allowed::both;
 use crate::causes;
-use crate::field::FIELD_SIZE;
 use crate::field::Number;
 use crate::line;
+use crate::line::FIELD_COUNT;
 use crate::line::Letter;
 use crate::line::MOST_FIELDS;
 use crate::line::nth;
@@ -27,8 +27,6 @@ use crate::tables::MOST_RULES;
 use crate::tables::MOST_WISHES;
 use crate::tables::Tables;
 
-// the fields of a line
-const FIELD_COUNT: usize = 3;
 // H, Z and as many others as there may be
 const MOST_LINES: usize = MOST_GATES + MOST_RULES + MOST_WISHES + 2;
 // the refusal of a sheet's length
@@ -165,7 +163,7 @@ fn read_form(s: &[u8], n: usize) -> Tables
     requires { ⌜ (3 ≤ n) × (n ≤ 4) ⌝ }
     ensures { λ r. ⌜ r ≡ outcome (read n (now (s .entry))) ⌝ }
 {
-    let size = 1 + n * FIELD_SIZE + 1;
+    let size = line::line_size(n);
     let bytes = s.len();
     let whole = both(bytes <= MOST_LINES * size, bytes % size == 0);
     let right = both(0 < bytes, whole);

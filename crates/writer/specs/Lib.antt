@@ -1,5 +1,6 @@
 -- to believe
 pub mod Lent
+pub mod Claims
 -- steps of the code, which no promise of an exported call names
 pub mod Put
 pub mod Fields

@@ -13,6 +13,7 @@ ghost use Rattle.sheet.specs.Columns.{numberFrom};
 ghost use Rattle.sheet.specs.Lines.{letterFrom};
 ghost use Rattle.writer.specs.Lent.{lent};
 ghost use Rattle.writer.specs.Entries.{Is, lineAt};
+use crate::line::plain;
 use sheet::AND;
 use sheet::NOT;
 use sheet::OR;
@@ -24,15 +25,6 @@ use sheet::tables::Counts;
 
 // the kind of a gate that its column does not hold
 const NO_KIND: u8 = 0;
-
-fn plain(k: u32) -> Number
-    ensures { λ r. ⌜ numberFrom r ≡ plus k ⌝ }
-{
-    Number {
-        minus: false,
-        size: k,
-    }
-}
 
 fn nowhere() -> Number
     ensures { λ r. ⌜ numberFrom r ≡ writing.nowhere ⌝ }

@@ -4,7 +4,7 @@ ghost use mathlib.Core.Path.{_≡_};
 ghost use mathlib.Core.Bool.{true};
 ghost use Prim.Native.Nat.{_+_, _*_, _%_, _≤_, _<_};
 ghost use lib.ListN.{length};
-ghost use Rattle.scope.specs.Sheet.{fieldSize, digit, field, fits, fieldsBytes};
+ghost use Rattle.scope.specs.Sheet.{plus, fieldSize, digit, field, fits, fieldsBytes};
 ghost use Rattle.scope.specs.Reading.{lineSize};
 ghost use Rattle.scope.specs.laws.Lines.{Fit};
 ghost use Rattle.sheet.specs.Columns.{numberFrom};
@@ -24,6 +24,13 @@ const MINUS: u8 = b'-';
 const ZERO: u8 = b'0';
 
 const LINE_FEED: u8 = b'\n';
+
+// A number that is not below 0.
+pub fn plain(size: u32) -> Number
+    ensures { λ r. ⌜ numberFrom r ≡ plus size ⌝ }
+{
+    Number { minus: false, size }
+}
 
 // The last digit of n.
 fn last_digit(n: u32) -> u8

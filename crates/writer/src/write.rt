@@ -3,7 +3,7 @@
 ghost use mathlib.Core.List.{List};
 ghost use mathlib.Core.Path.{_≡_};
 ghost use mathlib.Core.Option.{some};
-ghost use Prim.Native.Nat.{ℕ, _+_, _*_, _≤_, _<_};
+ghost use Prim.Native.Nat.{ℕ, _+_, _*_, _≤_};
 ghost use lib.ListN.{length};
 ghost use Rattle.scope.specs.Sheet as scope;
 ghost use Rattle.scope.specs.Sheet.{Sheet, letterByte, lineBytes, text, fieldCount, All};
@@ -20,8 +20,8 @@ use crate::entries::end_line;
 use crate::entries::line_of;
 use crate::line::put_line;
 use sheet::causes;
-use sheet::field::FIELD_SIZE;
 use sheet::line;
+use sheet::line::FIELD_COUNT;
 use sheet::line::Letter;
 use sheet::line::Line;
 use sheet::line::nth;
@@ -30,8 +30,8 @@ use sheet::tables::Counts;
 
 // the buffer is too short
 const TOO_SHORT: u32 = 13;
-// the fields of a line
-const FIELD_COUNT: usize = 3;
+// what no line that is put has for its letter
+const NO_LETTER: u8 = 0;
 
 // The length is 0 on refusal.
 pub struct Written {
@@ -75,7 +75,7 @@ fn counted(c: Counts, l: Line, n: usize) -> Counts
 
 // The lines of the tables but for the last.
 fn line_count(c: Counts) -> usize
-    ensures { λ r. ⌜ (r ≡ 1 + c .gates + c .rules + c .wishes) × (r < 18446744073709551615) ⌝ }
+    ensures { λ r. ⌜ r ≡ 1 + c .gates + c .rules + c .wishes ⌝ }
 {
     let g = c.gates as usize;
     let r = c.rules as usize;
@@ -136,12 +136,12 @@ fn letter_byte(letter: Letter) -> u8
         Letter::Rule => line::RULE,
         Letter::Wish => line::WISH,
         Letter::End => line::END,
-        Letter::Unknown => line::LINE_FEED,
+        Letter::Unknown => NO_LETTER,
     }
 }
 
 // Puts a line of n fields at `at`.
-fn put(out: &mut [u8], at: usize, l: Line, n: usize)
+fn put_sheet_line(out: &mut [u8], at: usize, l: Line, n: usize)
     requires { ⌜ ((s : scope.Line) × (lineFrom n l ≡ some s) × Good n s) × (n ≤ 4) × (at + lineSize n ≤ length (now out)) ⌝ }
     ensures { λ _. ⌜ ((s : scope.Line) → lineFrom n l ≡ some s → now (out .exit) ≡ put (now (out .entry)) at (lineBytes s)) ⌝ }
 {
@@ -171,7 +171,7 @@ fn put_lines(
     let mut k = 0;
     while k < count {
         let l = line_of(kind, left, right, rule, first, second, third, all, k);
-        put(out, k * size, l, n);
+        put_sheet_line(out, k * size, l, n);
         k += 1;
     }
 }
@@ -207,7 +207,7 @@ fn write_form(
     if v.number != 0 {
         return refused(v.number, v.place);
     }
-    let size = 1 + n * FIELD_SIZE + 1;
+    let size = line::line_size(n);
     let count = line_count(all);
     let need = (count + 1) * size;
     if out.len() < need {
@@ -226,7 +226,7 @@ fn write_form(
         n,
         size,
     );
-    put(out, count * size, end_line(count as u32), n);
+    put_sheet_line(out, count * size, end_line(count as u32), n);
     Written {
         number: 0,
         place: 0,

@@ -19,7 +19,7 @@ use Rattle.scope.specs.Texts.{FirstLine}
 use Rattle.scope.specs.Texts as texts
 use Rattle.scope.specs.Jobs.{over}
 use Rattle.scope.specs.Tables.{Tables, Holds}
-use Rattle.scope.specs.Writing.{word, entries, gateAt, ruleAt, wishAt, tableLines, rowsFrom, sheetFrom, TablesRefusal, outOfRange, tooMany, wrongField, tableRows, TablesRead, atFault, readTables, written, writtenOf}
+use Rattle.scope.specs.Writing.{word, entries, gateAt, ruleAt, wishAt, tableLines, rowsFrom, sheetFrom, TablesRefusal, outOfRange, tooMany, wrongField, tableRows, TablesRead, atFault, readTables, Written, written, writtenOf}
 use Rattle.scope.specs.Writing as writing
 use Rattle.scope.specs.laws.Tests.{clash}
 use Rattle.scope.specs.laws.Refusals.{accepted-iff, first-in}
@@ -137,21 +137,35 @@ module _ (n : ℕ) (u : Tables) where
 
 -- ---- writing, by whether there is room
 
-pub written-in : (n : ℕ) (t : Sheet) (out : List ℕ) → length (sheetBytes n t) ≤ length out → writtenOf n (accepted t) out ≡ written 0 0 0 (length (sheetBytes n t)) (over (sheetBytes n t) out)
-written-in n t out h = rw (le-leb (length (sheetBytes n t)) (length out) h)
+module _ (n : ℕ) (t : Sheet) (out : List ℕ) where
+  pub written-in : length (sheetBytes n t) ≤ length out → writtenOf n (accepted t) out ≡ written 0 0 0 (length (sheetBytes n t)) (over (sheetBytes n t) out)
+  written-in h = rw (le-leb (length (sheetBytes n t)) (length out) h)
 
-written-front : (n : ℕ) (t : Sheet) (out : List ℕ) → writtenOf n (accepted t) out .number ≡ 0 → take (writtenOf n (accepted t) out .length) (writtenOf n (accepted t) out .buffer) ≡ sheetBytes n t
-written-front n t out e = go (decLe (length (sheetBytes n t)) (length out))
-  where
-    go : Dec (length (sheetBytes n t) ≤ length out) → take (writtenOf n (accepted t) out .length) (writtenOf n (accepted t) out .buffer) ≡ sheetBytes n t
-    go (yes h) = rw (written-in n t out h) (take-append-seam (sheetBytes n t) (drop (length (sheetBytes n t)) out))
-    go (no h) = let f : writtenOf n (accepted t) out .number ≡ 13 = rw (lt-leb (length (sheetBytes n t)) (length out) (omega arith)) in absurd (omega arith)
+  pub left-out : length out < length (sheetBytes n t) → writtenOf n (accepted t) out ≡ written 13 0 0 0 out
+  left-out h = rw (lt-leb (length (sheetBytes n t)) (length out) h)
 
-refusal-there : {c place column : ℕ} → TablesRefusal c place column → c ≢ 0
-refusal-there outOfRange e = omega arith
-refusal-there tooMany e = omega arith
-refusal-there wrongField e = omega arith
+  by-room : (P : Written → Type 0) → (length (sheetBytes n t) ≤ length out → P (written 0 0 0 (length (sheetBytes n t)) (over (sheetBytes n t) out))) → (length out < length (sheetBytes n t) → P (written 13 0 0 0 out)) → P (writtenOf n (accepted t) out)
+  by-room P f g = go (decLe (length (sheetBytes n t)) (length out))
+    where
+      go : Dec (length (sheetBytes n t) ≤ length out) → P (writtenOf n (accepted t) out)
+      go (yes h) = subst P (sym (written-in h)) (f h)
+      go (no h) = let l : length out < length (sheetBytes n t) = omega arith in subst P (sym (left-out l)) (g l)
 
-pub written-sheet : (n : ℕ) (u : Tables) (out : List ℕ) {r : Read} → TablesRead n u r → writtenOf n r out .number ≡ 0 → (t : Sheet) × Holds u t × Valid t × (take (writtenOf n r out .length) (writtenOf n r out .buffer) ≡ sheetBytes n t)
-written-sheet n u out (atFault f) e = absurd (refusal-there (refusal-number n u (atFault f)) e)
-written-sheet n u out (writing.accepted {t} h v) e = (t, h, v, written-front n t out e)
+refusal-own : {c place column : ℕ} → TablesRefusal c place column → (c ≢ 0) × (c ≢ 13)
+refusal-own outOfRange = (λ e. omega arith, λ e. omega arith)
+refusal-own tooMany = (λ e. omega arith, λ e. omega arith)
+refusal-own wrongField = (λ e. omega arith, λ e. omega arith)
+
+module _ (n : ℕ) (u : Tables) (out : List ℕ) where
+  pub written-sheet : {r : Read} → TablesRead n u r → writtenOf n r out .number ≡ 0 → (t : Sheet) × Holds u t × Valid t × (take (writtenOf n r out .length) (writtenOf n r out .buffer) ≡ sheetBytes n t)
+  written-sheet (atFault f) e = absurd (refusal-own (refusal-number n u (atFault f)) .0 e)
+  written-sheet (writing.accepted {t} h v) e = (t, h, v, by-room n t out (λ w. w .number ≡ 0 → take (w .length) (w .buffer) ≡ sheetBytes n t) (λ l e. take-append-seam (sheetBytes n t) (drop (length (sheetBytes n t)) out)) (λ l e. absurd (omega arith)) e)
+
+  pub no-room : {r : Read} → TablesRead n u r → writtenOf n r out .number ≡ 13 → (t : Sheet) × Holds u t × Valid t × (length out < length (sheetBytes n t))
+  no-room (atFault f) e = absurd (refusal-own (refusal-number n u (atFault f)) .1 e)
+  no-room (writing.accepted {t} h v) e = (t, h, v, by-room n t out (λ w. w .number ≡ 13 → length out < length (sheetBytes n t)) (λ l e. absurd (omega arith)) (λ l e. l) e)
+
+-- a refusal changes nothing
+pub refused-kept : (n : ℕ) (r : Read) (out : List ℕ) → writtenOf n r out .number ≢ 0 → (writtenOf n r out .length ≡ 0) × (writtenOf n r out .buffer ≡ out)
+refused-kept n (accepted t) out h = by-room n t out (λ w. w .number ≢ 0 → (w .length ≡ 0) × (w .buffer ≡ out)) (λ l h. absurd (h refl)) (λ l h. (refl, refl)) h
+refused-kept n (refused c place column) out h = (refl, refl)

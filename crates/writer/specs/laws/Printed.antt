@@ -11,7 +11,7 @@ use lib.ListN.{length, getD, take, drop}
 use lib.Seq.{length-take-le, take-suc, take-length}
 use borrow.Author.Tests.{le-leb, lt-leb}
 use Rattle.scope.specs.Sheet.{Sheet, Letter, Line, H, line, lineBytes, letterByte, fieldsBytes, text, endLine, sheetBytes, fits, All}
-use Rattle.scope.specs.Reading.{accepted, refused, lineSize}
+use Rattle.scope.specs.Reading.{accepted, refused, lineSize, mostBytes}
 use Rattle.scope.specs.Jobs.{over}
 use Rattle.scope.specs.Tables.{Tables}
 use Rattle.scope.specs.Writing.{tableLines, readTables, written, write}
@@ -66,12 +66,12 @@ module _ (n : ℕ) (u : Tables) (good : All (Good n) (tableLines n u)) where
 pub line-room : (k count size room : ℕ) → k < count → count * size ≤ room → k * size + size ≤ room
 line-room k count size room h r = let i : suc k * size ≤ count * size = mul-le-mul-right size h in omega (arith, suc-mul k size)
 
-module _ (n : ℕ) (wide : 3 ≤ n) (narrow : n ≤ 4) (u : Tables) (t : Sheet) (e : readTables n u ≡ accepted t) (count : ℕ) (c : count ≡ 1 + u .gates + u .rules + u .wishes) where
+module _ (n : ℕ) (wide : 3 ≤ n) (narrow : n ≤ 4) (u : Tables) (t : Sheet) (e : readTables n u ≡ accepted t) (count size : ℕ) (c : count ≡ 1 + u .gates + u .rules + u .wishes) (z : size ≡ lineSize n) where
   pub few : count ≤ 529
   few = omega (arith, few-lines n wide u t e, length-lines n u)
 
-  pub need-fits : (count + 1) * (1 + n * 5 + 1) ≤ 11660
-  need-fits = mul-le-mul {n₁ = count + 1} {m₁ = 1 + n * 5 + 1} {n₂ = 530} {m₂ = 22} (omega (arith, few)) (omega arith)
+  pub need-fits : (count + 1) * size ≤ mostBytes 4
+  need-fits = mul-le-mul {n₁ = count + 1} {m₁ = size} {n₂ = 530} {m₂ = lineSize 4} (omega (arith, few)) (omega arith)
 
 -- ---- the whole
 
@@ -84,9 +84,15 @@ module _ (n : ℕ) (wide : 3 ≤ n) (u : Tables) where
   unfolding write
   told number place out e = rw e
 
-  module _ (t : Sheet) (e : readTables n u ≡ accepted t) (count size need : ℕ) (out : List ℕ) (c : count ≡ length (tableLines n u)) (z : size ≡ lineSize n) (m : need ≡ (count + 1) * size) where
+  module _ (t : Sheet) (e : readTables n u ≡ accepted t) (count size : ℕ) (out : List ℕ) (c : count ≡ 1 + u .gates + u .rules + u .wishes) (z : size ≡ lineSize n) where
+    abbrev need : ℕ
+    need = (count + 1) * size
+
+    lines : count ≡ length (tableLines n u)
+    lines = c ∙ sym (length-lines n u)
+
     needed : length (sheetBytes n t) ≡ need
-    needed = sheet-size n wide u t e ∙ sym (m ∙ ap₂ (λ a b. (a + 1) * b) c z)
+    needed = sheet-size n wide u t e ∙ sym (ap₂ (λ a b. (a + 1) * b) lines z)
 
     pub too-short : length out < need → written 13 0 0 0 out ≡ write n u out
     unfolding write
@@ -96,8 +102,8 @@ module _ (n : ℕ) (wide : 3 ≤ n) (u : Tables) where
     unfolding write
     whole middle now h p q =
         let ls : List Line = tableLines n u in
-        let k : length (text ls) ≡ count * size = length-text n ls (lines-good n wide u t e) ∙ ap₂ (λ a b. a * b) (sym c) (sym z) in
-        let r : text ls ++ lineBytes (endLine n count) ≡ sheetBytes n t = ap (λ j. text ls ++ lineBytes (endLine n j)) c ∙ sym (text-snoc ls (endLine n (length ls))) ∙ sym (sheet-text n wide u t e) in
+        let k : length (text ls) ≡ count * size = length-text n ls (lines-good n wide u t e) ∙ ap₂ (λ a b. a * b) (sym lines) (sym z) in
+        let r : text ls ++ lineBytes (endLine n count) ≡ sheetBytes n t = ap (λ j. text ls ++ lineBytes (endLine n j)) lines ∙ sym (text-snoc ls (endLine n (length ls))) ∙ sym (sheet-text n wide u t e) in
         let b : now ≡ sheetBytes n t ++ drop need out =
         q ∙ ap (λ o. put o (count * size) (lineBytes (endLine n count))) p ∙ put-next out 0 (text ls) (omega arith) (lineBytes (endLine n count)) (count * size) (omega arith) ∙ ap (put out 0) r ∙ at-front out (sheetBytes n t) ∙ ap (λ j. sheetBytes n t ++ drop j out) needed in
         rw (e, needed, le-leb need (length out) h, b)

@@ -5,14 +5,8 @@ use borrow.Author.Needs.{needs}
 use Rattle.sheet.proofs.reader.read_form.Statement.{statement}
 use Rattle.sheet.proofs.reader.read_form.Tie as tie
 
-mul-size : tie.Need-mul-size
-mul-size c = search needs
-
-add-size : tie.Need-add-size
-add-size c = search needs
-
-add-size-2 : tie.Need-add-size-2
-add-size-2 c = search needs
+line-size-requires : tie.Need-line-size-requires
+line-size-requires c κs = search needs
 
 mul-both : tie.Need-mul-both
 mul-both c = search needs
@@ -30,7 +24,11 @@ div-read-lines : tie.Need-div-read-lines
 div-read-lines c = search needs
 
 read-lines-requires : tie.Need-read-lines-requires
-read-lines-requires c κs = let a = c .before .before .before .before .args in record { least = c .before .before .before .before .pre .0; most = c .before .before .before .before .pre .1; size = refl; count = refl; right = sym (length-told (a .n) (length (a .s .now)) (c .before .both2 .ensures) (c .before .before .both .ensures)) ∙ c .if1 .taken }
+read-lines-requires c κs =
+    let s = c .before .before .before .before .before in
+    let a = s .args in
+    let z = c .before .before .before .line-size .ensures in
+    record { least = s .pre .0; most = s .pre .1; size = z; count = rw z; right = sym (length-told (a .n) (length (a .s .now)) (c .before .both2 .ensures) (rw z at (c .before .before .both .ensures))) ∙ c .if1 .taken }
 
 returns : tie.Need-returns
 returns c = search needs
@@ -39,15 +37,13 @@ refused-requires : tie.Need-refused-requires
 refused-requires c κs = search needs
 
 returns-2 : tie.Need-returns-2
-returns-2 c = let a = c .before .before .before .before .before .args in c .refused .ensures ∙ wrong-length (a .n) (a .s .now) (sym (length-told (a .n) (length (a .s .now)) (c .before .before .both2 .ensures) (c .before .before .before .both .ensures)) ∙ c .before .if1 .left)
+returns-2 c = let a = c .before .before .before .before .before .before .args in c .refused .ensures ∙ wrong-length (a .n) (a .s .now) (sym (length-told (a .n) (length (a .s .now)) (c .before .before .both2 .ensures) (rw (c .before .before .before .before .line-size .ensures) at (c .before .before .before .both .ensures))) ∙ c .before .if1 .left)
 
 pub read-form-spec : {M : Type 1} → statement M
 read-form-spec =
     tie.close
     (tie.spec
-    mul-size
-    add-size
-    add-size-2
+    line-size-requires
     mul-both
     rem-both
     both-requires

@@ -30,23 +30,23 @@ loop-holds c = (search needs, refl, sym (put-nothing _ 0))
 line-of-requires : tie.Need-line-of-requires Inv-loop μ-loop
 line-of-requires c κs = search needs
 
-mul-put : tie.Need-mul-put Inv-loop μ-loop
-mul-put c =
+mul-put-sheet-line : tie.Need-mul-put-sheet-line Inv-loop μ-loop
+mul-put-sheet-line c =
     let s = c .before .before .before .before .before .before .before .before .before .before .before .before .before in
     let a = s .args in
     let u = lent (a .all) (a .kind .now) (a .left .now) (a .right .now) (a .rule .now) (a .first .now) (a .second .now) (a .third .now) in
     let l = c .before .before .before .loop in
-    let r : l .k * a .size + a .size ≤ length (a .out .now) = line-room (l .k) (c .before .before .before .before .line-count .result) (a .size) (length (a .out .now)) (c .before .before .loop-test .taken) (rw (c .before .before .before .before .line-count .ensures .0) (s .pre .4)) in
+    let r : l .k * a .size + a .size ≤ length (a .out .now) = line-room (l .k) (c .before .before .before .before .line-count .result) (a .size) (length (a .out .now)) (c .before .before .loop-test .taken) (rw (c .before .before .before .before .line-count .ensures) (s .pre .4)) in
     search needs
 
-put-requires : tie.Need-put-requires Inv-loop μ-loop
-put-requires c κs =
+put-sheet-line-requires : tie.Need-put-sheet-line-requires Inv-loop μ-loop
+put-sheet-line-requires c κs =
     let s = c .before .before .before .before .before .before .before .before .before .before .before .before .before in
     let a = s .args in
     let u = lent (a .all) (a .kind .now) (a .left .now) (a .right .now) (a .rule .now) (a .first .now) (a .second .now) (a .third .now) in
     let l = c .before .before .before .loop in
-    let r : l .k * a .size + a .size ≤ length (a .out .now) = line-room (l .k) (c .before .before .before .before .line-count .result) (a .size) (length (a .out .now)) (c .before .before .loop-test .taken) (rw (c .before .before .before .before .line-count .ensures .0) (s .pre .4)) in
-    ((lineAt (a .n) u (l .k), c .before .line-of .ensures (a .n) (s .pre .0) (s .pre .1), line-good (a .n) u (s .pre .3) (l .k) (omega (arith, length-lines (a .n) u, c .before .before .before .before .line-count .ensures .0, c .before .before .loop-test .taken))), s .pre .1, omega (arith, s .pre .2, l .inv .1))
+    let r : l .k * a .size + a .size ≤ length (a .out .now) = line-room (l .k) (c .before .before .before .before .line-count .result) (a .size) (length (a .out .now)) (c .before .before .loop-test .taken) (rw (c .before .before .before .before .line-count .ensures) (s .pre .4)) in
+    ((lineAt (a .n) u (l .k), c .before .line-of .ensures (a .n) (s .pre .0) (s .pre .1), line-good (a .n) u (s .pre .3) (l .k) (omega (arith, length-lines (a .n) u, c .before .before .before .before .line-count .ensures, c .before .before .loop-test .taken))), s .pre .1, omega (arith, s .pre .2, l .inv .1))
 
 add-k : tie.Need-add-k Inv-loop μ-loop
 add-k c = search needs
@@ -60,13 +60,13 @@ loop-again c =
     let a = s .args in
     let u = lent (a .all) (a .kind .now) (a .left .now) (a .right .now) (a .rule .now) (a .first .now) (a .second .now) (a .third .now) in
     let l = c .before .before .before .before .before .before .loop in
-    let o = c .before .before .put in
+    let o = c .before .before .put-sheet-line in
     let n = length-lines (a .n) u in
     let h = c .before .before .before .before .before .loop-test .taken in
     let m : length (o .last .0) ≡ length (l .out) = search needs in (
       omega (arith, h),
       m ∙ l .inv .1,
-      next-line (a .n) u (s .pre .3) (a .out .now) (l .k) (a .size) (l .out) (o .last .0) (s .pre .2) (rw n (s .pre .4)) (omega (arith, n, c .before .before .before .before .before .before .before .line-count .ensures .0, h)) (l .inv .2) (o .ensures (lineAt (a .n) u (l .k)) (c .before .before .before .before .line-of .ensures (a .n) (s .pre .0) (s .pre .1))),
+      next-line (a .n) u (s .pre .3) (a .out .now) (l .k) (a .size) (l .out) (o .last .0) (s .pre .2) (rw n (s .pre .4)) (omega (arith, n, c .before .before .before .before .before .before .before .line-count .ensures, h)) (l .inv .2) (o .ensures (lineAt (a .n) u (l .k)) (c .before .before .before .before .line-of .ensures (a .n) (s .pre .0) (s .pre .1))),
     )
 
 same-length : tie.Need-same-length Inv-loop μ-loop
@@ -77,7 +77,7 @@ returns c =
     let s = c .before .before .before .before .before .before .before .before .before .before .before in
     let a = s .args in
     let u = lent (a .all) (a .kind .now) (a .left .now) (a .right .now) (a .rule .now) (a .first .now) (a .second .now) (a .third .now) in
-    c .before .loop .inv .2 ∙ ap (λ r. put (a .out .now) 0 (text r)) (take-all (c .before .loop .k) (tableLines (a .n) u) (omega (arith, length-lines (a .n) u, c .before .before .line-count .ensures .0, c .loop-test .left)))
+    c .before .loop .inv .2 ∙ ap (λ r. put (a .out .now) 0 (text r)) (take-all (c .before .loop .k) (tableLines (a .n) u) (omega (arith, length-lines (a .n) u, c .before .before .line-count .ensures, c .loop-test .left)))
 
 pub put-lines-spec : {M : Type 1} → statement M
 put-lines-spec =
@@ -88,8 +88,8 @@ put-lines-spec =
     line-count-requires
     loop-holds
     line-of-requires
-    mul-put
-    put-requires
+    mul-put-sheet-line
+    put-sheet-line-requires
     add-k
     loop-less
     loop-again

@@ -2,8 +2,8 @@ use borrow.Author.Needs.{needs}
 use mathlib.Core.Path.{ap, _∙_}
 use Rattle.writer.specs.Put.{put}
 use Rattle.writer.specs.laws.Printed.{numbers-fit, line-bytes}
-use Rattle.writer.proofs.write.put.Statement.{statement}
-use Rattle.writer.proofs.write.put.Tie as tie
+use Rattle.writer.proofs.write.put_sheet_line.Statement.{statement}
+use Rattle.writer.proofs.write.put_sheet_line.Tie as tie
 
 letter-byte-requires : tie.Need-letter-byte-requires
 letter-byte-requires c κs = search needs
@@ -19,5 +19,5 @@ same-length c = search needs
 returns : tie.Need-returns
 returns c = λ s e. c .before .before .put-line .ensures ∙ ap (put _ _) (line-bytes _ _ s e _ (c .before .before .before .letter-byte .ensures))
 
-pub put-spec : {M : Type 1} → statement M
-put-spec = tie.close (tie.spec letter-byte-requires put-line-requires same-length returns)
+pub put-sheet-line-spec : {M : Type 1} → statement M
+put-sheet-line-spec = tie.close (tie.spec letter-byte-requires put-line-requires same-length returns)
