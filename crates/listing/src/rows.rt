@@ -2,6 +2,7 @@
 use crate::row::ROW_SIZE;
 use crate::row::put_row;
 use circuit::Plan;
+use writer::line::narrow;
 ghost use mathlib.Core.Path.{_≡_};
 ghost use mathlib.Core.List.{[]};
 ghost use Prim.Native.Nat.{_+_, _*_, _≤_, _<_};
@@ -17,13 +18,6 @@ const SWITCH: u8 = b'S';
 const WISH: u8 = b'W';
 
 const PATTERN: u8 = b'F';
-
-pub fn narrow(n: usize) -> u32
-    requires { ⌜ n < 100000 ⌝ }
-    ensures { λ r. ⌜ r ≡ n ⌝ }
-{
-    n as u32
-}
 
 pub fn wide(n: u32) -> usize
     ensures { λ r. ⌜ r ≡ n ⌝ }

@@ -1,12 +1,12 @@
 // A whole listing.
 use crate::row::ROW_SIZE;
 use crate::row::put_row;
-use crate::rows::narrow;
 use crate::rows::put_patterns;
 use crate::rows::put_switches;
 use crate::rows::put_wishes;
 use crate::rows::wide;
 use circuit::Plan;
+use writer::line::narrow;
 ghost use Prim.Native.Nat.{_+_, _*_, _≤_, _<_};
 ghost use lib.ListN.{length};
 ghost use Rattle.circuit.specs.Lent.{Clauses, wishesOf};

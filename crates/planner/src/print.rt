@@ -5,6 +5,7 @@ use crate::rating::wide;
 use listing::whole::MOST_BYTES;
 use listing::whole::put_listing;
 use sheet::Tables;
+use writer::line::narrow;
 ghost use mathlib.Core.Path.{_≡_};
 ghost use Prim.Native.Nat.{_<_};
 ghost use Rattle.scope.specs.Sheet.{fieldCount};
@@ -16,13 +17,6 @@ ghost use Rattle.planner.specs.laws.Listing.{listingInto, listingLength}
 
 // The list that the program lends.
 const ROOM: usize = 4096;
-
-fn narrow(n: usize) -> u32
-    requires { ⌜ n < 100000 ⌝ }
-    ensures { λ r. ⌜ r ≡ n ⌝ }
-{
-    n as u32
-}
 
 // The third number of the A line: the column of a malformed line, and otherwise the cost.
 fn figure(r: Outcome) -> u32

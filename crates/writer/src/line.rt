@@ -32,6 +32,14 @@ pub fn plain(size: u32) -> Number
     Number { minus: false, size }
 }
 
+// A count or place, small enough for a field.
+pub fn narrow(n: usize) -> u32
+    requires { ⌜ n < 100000 ⌝ }
+    ensures { λ r. ⌜ r ≡ n ⌝ }
+{
+    n as u32
+}
+
 // The last digit of n.
 fn last_digit(n: u32) -> u8
     ensures { λ r. ⌜ r ≡ digit (n % 10) ⌝ }

@@ -18,6 +18,7 @@ ghost use Rattle.writer.specs.Put.{put};
 ghost use Rattle.writer.specs.Entries.{Small, Judged};
 use crate::entries::end_line;
 use crate::entries::line_of;
+use crate::line::narrow;
 use crate::line::put_line;
 use sheet::causes;
 use sheet::line;
@@ -226,7 +227,7 @@ fn write_form(
         n,
         size,
     );
-    put_sheet_line(out, count * size, end_line(count as u32), n);
+    put_sheet_line(out, count * size, end_line(narrow(count)), n);
     Written {
         number: 0,
         place: 0,

@@ -86,8 +86,8 @@ mul-put-sheet-line c =
     let r : k .result * z .result + z .result ≤ length (a .out .now) = line-room (k .result) (k .result + 1) (z .result) (length (a .out .now)) (omega arith) (c .before .before .before .before .before .if2 .left) in
     search needs
 
-cast-end-line : tie.Need-cast-end-line
-cast-end-line c =
+narrow-requires : tie.Need-narrow-requires
+narrow-requires c κs =
     let s = c .before .before .before .before .before .before .before .before .before .before .before .before .before .before .before .before .before .before .before in
     let a = s .args in
     let u = lent (a .all) (a .kind .now) (a .left .now) (a .right .now) (a .rule .now) (a .first .now) (a .second .now) (a .third .now) in
@@ -102,29 +102,29 @@ end-line-requires c κs = search needs
 
 put-sheet-line-requires : tie.Need-put-sheet-line-requires
 put-sheet-line-requires c κs =
-    let s = c .before .before .before .before .before .before .before .before .before .before .before .before .before .before .before .before .before .before .before .before in
+    let s = c .before .before .before .before .before .before .before .before .before .before .before .before .before .before .before .before .before .before .before .before .before in
     let a = s .args in
     let u = lent (a .all) (a .kind .now) (a .left .now) (a .right .now) (a .rule .now) (a .first .now) (a .second .now) (a .third .now) in
-    let (t, e) = c .before .before .before .before .before .before .before .before .before .before .before .first-fault .ensures .valid (c .before .before .before .before .before .before .before .before .before .if1 .left) in
-    let k = c .before .before .before .before .before .before .before .line-count in
-    let z = c .before .before .before .before .before .before .before .before .line-size in
-    let r : k .result * z .result + z .result ≤ length (a .out .now) = line-room (k .result) (k .result + 1) (z .result) (length (a .out .now)) (omega arith) (c .before .before .before .before .before .before .if2 .left) in
-    let m : length (c .before .before .before .before .put-lines .last .0) ≡ length (a .out .now) = search needs in
+    let (t, e) = c .before .before .before .before .before .before .before .before .before .before .before .before .first-fault .ensures .valid (c .before .before .before .before .before .before .before .before .before .before .if1 .left) in
+    let k = c .before .before .before .before .before .before .before .before .line-count in
+    let z = c .before .before .before .before .before .before .before .before .before .line-size in
+    let r : k .result * z .result + z .result ≤ length (a .out .now) = line-room (k .result) (k .result + 1) (z .result) (length (a .out .now)) (omega arith) (c .before .before .before .before .before .before .before .if2 .left) in
+    let m : length (c .before .before .before .before .before .put-lines .last .0) ≡ length (a .out .now) = search needs in
     let h = few (a .n) (s .pre .0) (s .pre .1) u t e (k .result) (z .result) (k .ensures) (z .ensures) in
-    ((endLine (a .n) (k .result), c .end-line .ensures (a .n) (s .pre .0) (s .pre .1), end-good (a .n) (s .pre .0) (k .result) (omega (arith, h))), s .pre .1, omega (arith, z .ensures))
+    ((endLine (a .n) (k .result), rw (c .before .narrow .ensures) at (c .end-line .ensures (a .n) (s .pre .0) (s .pre .1)), end-good (a .n) (s .pre .0) (k .result) (omega (arith, h))), s .pre .1, omega (arith, z .ensures))
 
 same-length : tie.Need-same-length
 same-length c = search needs
 
 returns-3 : tie.Need-returns-3
 returns-3 c =
-    let s = c .before .before .before .before .before .before .before .before .before .before .before .before .before .before .before .before .before .before .before .before .before .before .before in
+    let s = c .before .before .before .before .before .before .before .before .before .before .before .before .before .before .before .before .before .before .before .before .before .before .before .before in
     let a = s .args in
     let u = lent (a .all) (a .kind .now) (a .left .now) (a .right .now) (a .rule .now) (a .first .now) (a .second .now) (a .third .now) in
-    let (t, e) = c .before .before .before .before .before .before .before .before .before .before .before .before .before .before .first-fault .ensures .valid (c .before .before .before .before .before .before .before .before .before .before .before .before .if1 .left) in
-    let k = c .before .before .before .before .before .before .before .before .before .before .line-count in
-    let z = c .before .before .before .before .before .before .before .before .before .before .before .line-size in
-    whole (a .n) (s .pre .0) u t e (k .result) (z .result) (a .out .now) (k .ensures) (z .ensures) (c .before .before .before .before .before .before .before .put-lines .last .0) _ (c .before .before .before .before .before .before .before .before .before .if2 .left) (c .before .before .before .before .before .before .before .put-lines .ensures) (c .before .before .put-sheet-line .ensures (endLine (a .n) (k .result)) (c .before .before .before .end-line .ensures (a .n) (s .pre .0) (s .pre .1)))
+    let (t, e) = c .before .before .before .before .before .before .before .before .before .before .before .before .before .before .before .first-fault .ensures .valid (c .before .before .before .before .before .before .before .before .before .before .before .before .before .if1 .left) in
+    let k = c .before .before .before .before .before .before .before .before .before .before .before .line-count in
+    let z = c .before .before .before .before .before .before .before .before .before .before .before .before .line-size in
+    whole (a .n) (s .pre .0) u t e (k .result) (z .result) (a .out .now) (k .ensures) (z .ensures) (c .before .before .before .before .before .before .before .before .put-lines .last .0) _ (c .before .before .before .before .before .before .before .before .before .before .if2 .left) (c .before .before .before .before .before .before .before .before .put-lines .ensures) (c .before .before .put-sheet-line .ensures (endLine (a .n) (k .result)) (rw (c .before .before .before .before .narrow .ensures) at (c .before .before .before .end-line .ensures (a .n) (s .pre .0) (s .pre .1))))
 
 pub write-form-spec : {M : Type 1} → statement M
 write-form-spec =
@@ -141,7 +141,7 @@ write-form-spec =
     returns-2
     put-lines-requires
     mul-put-sheet-line
-    cast-end-line
+    narrow-requires
     end-line-requires
     put-sheet-line-requires
     same-length
