@@ -2,8 +2,8 @@
 use Prim.Native.Nat.{ℕ, _≤_}
 use native.Mathlib.Omega.{arith}
 use mathlib.Core.List.{List, [], _∷_, map}
-use mathlib.Core.Path.{_≡_, refl, sym, ap, subst, _∙_}
-use lib.ListN.{length, take, replicate, length-map}
+use mathlib.Core.Path.{_≡_, refl, sym, ap, _∙_}
+use lib.ListN.{length, take, length-map}
 use lib.Seq.{take-at}
 use Rattle.scope.specs.Sheet.{Sheet, fieldCount}
 use Rattle.scope.specs.Reading.{accepted, read}

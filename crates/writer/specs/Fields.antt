@@ -4,7 +4,7 @@ use Prim.Native.Char.{code}
 use native.Mathlib.Nat.{pow-suc, suc-mul}
 use native.Mathlib.Numerals.{add-one}
 use native.Mathlib.Omega.{arith}
-use mathlib.Core.Bool.{Bool, true, false, cond, _&&_}
+use mathlib.Core.Bool.{Bool, true, false, cond}
 use mathlib.Core.List.{List, [], _∷_, _++_, append-assoc, append-nil}
 use mathlib.Core.Logic.{_≢_}
 use mathlib.Core.Path.{_≡_, refl, sym, ap, _∙_}
@@ -104,7 +104,7 @@ unfoldable pub fieldsFront : List Number → List ℕ
 fieldsFront [] = []
 fieldsFront (x ∷ xs) = field x ++ fieldsFront xs
 
-pub front-line : (xs : List Number) → fieldsBytes xs ≡ fieldsFront xs ++ code "\n" ∷ []
+front-line : (xs : List Number) → fieldsBytes xs ≡ fieldsFront xs ++ code "\n" ∷ []
 unfolding fieldsFront fieldsBytes
 front-line [] = refl
 front-line (x ∷ xs) = ap (λ s. field x ++ s) (front-line xs) ∙ sym (append-assoc (field x) (fieldsFront xs) (code "\n" ∷ []))
@@ -119,7 +119,7 @@ fit-take zero xs f = tt
 fit-take (suc i) [] f = tt
 fit-take (suc i) (x ∷ xs) (p, f) = (p, fit-take i xs f)
 
-pub length-front : (xs : List Number) → Fit xs → length (fieldsFront xs) ≡ length xs * fieldSize
+length-front : (xs : List Number) → Fit xs → length (fieldsFront xs) ≡ length xs * fieldSize
 unfolding fieldsFront
 length-front [] f = refl
 length-front (x ∷ xs) (p, f) = omega (arith, length-append (field x) (fieldsFront xs), length-field x p, length-front xs f, suc-mul (length xs) fieldSize)

@@ -4,8 +4,8 @@ use native.Mathlib.Nat.{add-zero}
 use native.Mathlib.Numerals.{add-one}
 use native.Mathlib.Omega.{arith}
 use mathlib.Core.List.{List, [], _∷_, _++_, append-assoc, append-nil}
-use mathlib.Core.Path.{_≡_, refl, sym, ap, ap₂, _∙_}
-use lib.ListN.{length, set, take, drop, length-append, length-drop, take-append-drop}
+use mathlib.Core.Path.{_≡_, sym, ap, ap₂, _∙_}
+use lib.ListN.{length, set, take, drop, length-append, take-append-drop}
 use lib.Seq.{length-take-le, take-at, drop-at, drop-drop, take-length, paste, set-split}
 
 unfoldable pub put : List ℕ → ℕ → List ℕ → List ℕ
@@ -27,10 +27,6 @@ all-put out at s n e = rw (← e) (ap (λ r. take at out ++ r ++ drop (at + leng
 module _ (out : List ℕ) (at : ℕ) (s : List ℕ) (room : at + length s ≤ length out) where
   head-length : length (take at out ++ s) ≡ at + length s
   head-length = omega (arith, length-append (take at out) s, length-take-le at out (omega arith))
-
-  pub length-put : length (put out at s) ≡ length out
-  unfolding put
-  length-put = omega (arith, length-append (take at out ++ s) (drop (at + length s) out), length-drop (at + length s) out, head-length)
 
   -- more of them after those that are there
   pub put-more : (r : List ℕ) → put (put out at s) (at + length s) r ≡ put out at (s ++ r)

@@ -20,7 +20,7 @@ use Rattle.scope.specs.laws.Lines.{Fit, line-iff, length-line}
 use Rattle.scope.specs.laws.Refusals.{met-none, accepted-iff}
 use Rattle.scope.specs.laws.Steps.{Step, more, done, step, Head, head-step}
 
-pub text-append : (r s : List Line) → text (r ++ s) ≡ text r ++ text s
+text-append : (r s : List Line) → text (r ++ s) ≡ text r ++ text s
 unfolding text
 text-append [] s = refl
 text-append (l ∷ r) s = rw (text-append r s) (sym (append-assoc (lineBytes l) (text r) (text s)))

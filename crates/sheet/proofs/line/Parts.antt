@@ -10,9 +10,9 @@ use mathlib.Core.Logic.{_≢_}
 use mathlib.Core.Option.{Option, none, some, Option·getD}
 use mathlib.Core.Path.{_≡_, refl, sym, ap, ap₂, subst, subst₂, _∙_}
 use lib.Dec.{eqb}
-use lib.ListN.{length, getD, take, drop, set, length-map, length-set, List·getD-map}
-use lib.Seq.{length-take-le, take-take, take-add, take-suc-set, drop-at, drop-drop, drop-cons, getD-take}
-use Rattle.scope.specs.Sheet.{plus, fieldSize}
+use lib.ListN.{length, getD, take, drop, set, length-map, length-set}
+use lib.Seq.{take-take, take-add, take-suc-set, drop-at, drop-drop, drop-cons}
+use Rattle.scope.specs.Sheet.{fieldSize}
 use Rattle.scope.specs.Sheet as scope
 use Rattle.scope.specs.Reading.{when, also, fieldOf, fieldsOf, letterOf, joined, lineOf, formed, columnOf, lineSize, at}
 use Rattle.scope.specs.laws.Beginnings.{some-formed, fieldBegins, fieldsBegin, Stop, field-stop, rest-stop, end-stop, letter-stop, after-letter, stop-column, column-is}

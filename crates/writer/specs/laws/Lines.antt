@@ -25,7 +25,7 @@ use Rattle.writer.specs.Entries.{Is, afterHead, lineAt}
 
 -- ---- three or four fields
 
-pub by-width : (P : ℕ → Type 0) → P 3 → P 4 → (n : ℕ) → 3 ≤ n → n ≤ 4 → P n
+by-width : (P : ℕ → Type 0) → P 3 → P 4 → (n : ℕ) → 3 ≤ n → n ≤ 4 → P n
 by-width P p q n l h = go (decLe 4 n)
   where
     go : Dec (4 ≤ n) → P n
@@ -33,10 +33,10 @@ by-width P p q n l h = go (decLe 4 n)
     go (no i) = let e : n ≡ 3 = omega arith in subst P (sym e) p
 
 -- unused fields hold 0
-pub one-used : (x : Number) (n : ℕ) → 3 ≤ n → n ≤ 4 → filled n (x ∷ plus 0 ∷ plus 0 ∷ []) ≡ filled n (x ∷ [])
+one-used : (x : Number) (n : ℕ) → 3 ≤ n → n ≤ 4 → filled n (x ∷ plus 0 ∷ plus 0 ∷ []) ≡ filled n (x ∷ [])
 one-used x = by-width (λ n. filled n (x ∷ plus 0 ∷ plus 0 ∷ []) ≡ filled n (x ∷ [])) refl refl
 
-pub two-used : (x y : Number) (n : ℕ) → 3 ≤ n → n ≤ 4 → filled n (x ∷ y ∷ plus 0 ∷ []) ≡ filled n (x ∷ y ∷ [])
+two-used : (x y : Number) (n : ℕ) → 3 ≤ n → n ≤ 4 → filled n (x ∷ y ∷ plus 0 ∷ []) ≡ filled n (x ∷ y ∷ [])
 two-used x y = by-width (λ n. filled n (x ∷ y ∷ plus 0 ∷ []) ≡ filled n (x ∷ y ∷ [])) refl refl
 
 -- ---- what a line of the code is

@@ -3,14 +3,13 @@ use Prim.Native.Nat.{ℕ, zero, suc, _+_, _*_, _≤_, _<_}
 use native.Mathlib.Nat.{zero-add, suc-mul, mul-le-mul, mul-le-mul-right}
 use native.Mathlib.Numerals.{add-one}
 use native.Mathlib.Omega.{arith}
-use mathlib.Core.Bool.{true}
 use mathlib.Core.List.{List, [], _∷_, _++_}
 use mathlib.Core.Option.{some}
-use mathlib.Core.Path.{_≡_, refl, sym, ap, ap₂, subst, _∙_}
+use mathlib.Core.Path.{_≡_, sym, ap, ap₂, subst, _∙_}
 use lib.ListN.{length, getD, take, drop}
-use lib.Seq.{length-take-le, take-suc, take-length}
+use lib.Seq.{length-take-le, take-suc}
 use borrow.Author.Tests.{le-leb, lt-leb}
-use Rattle.scope.specs.Sheet.{Sheet, Letter, Line, H, line, lineBytes, letterByte, fieldsBytes, text, endLine, sheetBytes, fits, All}
+use Rattle.scope.specs.Sheet.{Sheet, Letter, Line, H, line, lineBytes, letterByte, fieldsBytes, text, endLine, sheetBytes, All}
 use Rattle.scope.specs.Reading.{accepted, refused, lineSize, mostBytes}
 use Rattle.scope.specs.Jobs.{over}
 use Rattle.scope.specs.Tables.{Tables}
@@ -20,7 +19,7 @@ use Rattle.scope.specs.laws.Inverse.{Good, length-text, text-snoc}
 use Rattle.scope.specs.laws.Writing.{length-lines, lines-good, sheet-text, sheet-size, few-lines}
 use Rattle.sheet.specs.Lines.{letterFrom, numbersFrom, lineFrom}
 use Rattle.sheet.specs.declared.line.Line as made
-use Rattle.writer.specs.Put.{put, put-nothing, put-next}
+use Rattle.writer.specs.Put.{put, put-next}
 use Rattle.writer.specs.Entries.{lineAt}
 use Rattle.writer.specs.laws.Lines.{Parts, line-parts, line-at}
 

@@ -6,8 +6,8 @@ use mathlib.Core.Bool.{false}
 use mathlib.Core.List.{List, [], _∷_}
 use mathlib.Core.Logic.{_≢_}
 use mathlib.Core.Option.{some}
-use mathlib.Core.Path.{_≡_, refl, sym, ap, subst, _∙_}
-use lib.ListN.{length, getD, drop}
+use mathlib.Core.Path.{_≡_, refl, sym, ap, _∙_}
+use lib.ListN.{length, drop}
 use lib.Seq.{drop-cons, drop-length}
 use Rattle.scope.specs.Sheet.{Sheet, Line, H, line}
 use Rattle.scope.specs.Reading.{rows, tests, started, make, add, Read, accepted, refused}

@@ -1,6 +1,6 @@
 use Rattle.sheet.proofs.reader.Lines.{length-told, wrong-length}
 use lib.ListN.{length}
-use mathlib.Core.Path.{refl, sym, _∙_}
+use mathlib.Core.Path.{sym, _∙_}
 use borrow.Author.Needs.{needs}
 use Rattle.sheet.proofs.reader.read_form.Statement.{statement}
 use Rattle.sheet.proofs.reader.read_form.Tie as tie

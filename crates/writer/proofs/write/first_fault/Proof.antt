@@ -1,7 +1,6 @@
 use borrow.Author.Needs.{needs}
 use Prim.Native.Nat.{_-_}
 use native.Mathlib.Omega.{arith}
-use mathlib.Core.Path.{sym, _∙_}
 use Rattle.scope.specs.laws.Writing.{length-lines}
 use Rattle.writer.specs.Lent.{lent}
 use Rattle.writer.specs.laws.Tested.{Reached, begun, few, small, finished, turned-down, reached-next}
