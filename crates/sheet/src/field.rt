@@ -7,11 +7,11 @@ ghost use Rattle.sheet.specs.Columns.{unlessLast, withDigit, next, bad, 
 
 pub const FIELD_SIZE: usize = 5;
 
-const SPACE: u8 = b' ';
+pub const SPACE: u8 = b' ';
 
-const MINUS: u8 = b'-';
+pub const MINUS: u8 = b'-';
 
-const ZERO: u8 = b'0';
+pub const ZERO: u8 = b'0';
 
 const NINE: u8 = b'9';
 

@@ -13,17 +13,13 @@ ghost use Rattle.writer.specs.Put.{put};
 ghost use Rattle.writer.specs.Fields as fields;
 ghost use Rattle.writer.specs.Fields.{signOf, fieldsFront};
 use sheet::field::FIELD_SIZE;
+use sheet::field::MINUS;
 use sheet::field::Number;
+use sheet::field::SPACE;
+use sheet::field::ZERO;
+use sheet::line::LINE_FEED;
 use sheet::line::MOST_FIELDS;
 use sheet::line::nth;
-
-const SPACE: u8 = b' ';
-
-const MINUS: u8 = b'-';
-
-const ZERO: u8 = b'0';
-
-const LINE_FEED: u8 = b'\n';
 
 // A number that is not below 0.
 pub fn plain(size: u32) -> Number
@@ -72,7 +68,7 @@ fn column(n: u32, right: u32, sign: u8) -> u8
 }
 
 // A number, right-justified with spaces.
-fn field_bytes(x: Number) -> [u8; 5]
+fn field_bytes(x: Number) -> [u8; FIELD_SIZE]
     requires { ⌜ fits (numberFrom x) ≡ true ⌝ }
     ensures { λ r. ⌜ r ≡ field (numberFrom x) ⌝ }
 {
@@ -99,7 +95,7 @@ fn put_byte(out: &mut [u8], at: usize, b: u8)
 }
 
 // Puts the five columns of a number at `at`.
-fn put_columns(out: &mut [u8], at: usize, columns: [u8; 5])
+fn put_columns(out: &mut [u8], at: usize, columns: [u8; FIELD_SIZE])
     requires { ⌜ at + fieldSize ≤ length (now out) ⌝ }
     ensures { λ _. ⌜ now (out .exit) ≡ put (now (out .entry)) at columns ⌝ }
 {
