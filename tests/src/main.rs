@@ -14,7 +14,7 @@ use std::time::Instant;
 
 use planner_tests::generate::{sheet, string, RECIPES};
 use planner_tests::malformed::placed;
-use planner_tests::options;
+use planner_tests::options::{self, ended, misused};
 use planner_tests::oracle::{
     read, Refusal, Sheet, LINE, LITERALS, MAX_GATES, MAX_RULES, MAX_WISHES,
 };
@@ -38,9 +38,7 @@ const USAGE: &str = "usage: compare PROGRAM [--count N] [--seed S]";
 
 fn main() -> ExitCode {
     let Some(options) = options() else {
-        eprintln!("{USAGE}");
-        println!("0 passed, 1 failed");
-        return ExitCode::FAILURE;
+        return misused(USAGE);
     };
     let mut tally = compare(&options);
     tally.show();
@@ -48,12 +46,7 @@ fn main() -> ExitCode {
     for example in examples().into_iter().chain(malformed()) {
         tally.add_example(&options.program, &example);
     }
-    println!("{} passed, {} failed", tally.passed, tally.failed);
-    if tally.failed == 0 {
-        ExitCode::SUCCESS
-    } else {
-        ExitCode::FAILURE
-    }
+    ended(tally.passed, tally.failed)
 }
 
 struct Options {

@@ -1,10 +1,28 @@
-//! What the comparisons share of their command lines: words, options with a number, and seeds.
+//! What the comparisons share of their command lines: words, options with a number, and seeds; and
+//! how they end.
 
 use std::collections::BTreeMap;
+use std::process::ExitCode;
 use std::time::{SystemTime, UNIX_EPOCH};
 
 /// What these seeds make is the same in every run. One more seed is taken from the clock.
 pub const FIXED_SEEDS: [u64; 4] = [1, 2, 3, 4];
+
+/// The last line of a comparison, and its exit status.
+pub fn ended(passed: u64, failed: u64) -> ExitCode {
+    println!("{passed} passed, {failed} failed");
+    if failed == 0 {
+        ExitCode::SUCCESS
+    } else {
+        ExitCode::FAILURE
+    }
+}
+
+/// For a command line that is not understood.
+pub fn misused(usage: &str) -> ExitCode {
+    eprintln!("{usage}");
+    ended(0, 1)
+}
 
 pub struct Options {
     /// The words that belong to no option.

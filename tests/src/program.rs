@@ -10,7 +10,7 @@ use std::process::ExitCode;
 use planner_tests::brute::{refused_listing, End, Planner};
 use planner_tests::effort::Effort;
 use planner_tests::form::Form;
-use planner_tests::options::Options;
+use planner_tests::options::{ended, misused, Options};
 use planner_tests::oracle::LINE;
 use planner_tests::process::difference;
 
@@ -25,9 +25,7 @@ const USAGE: &str = "usage: compare-program PROGRAM [FILE...] [--texts 1] [--cou
 fn main() -> ExitCode {
     let options = Options::from_command_line(&[Form::OPTION, "--count", "--seed"]);
     let Some(options) = options.filter(|o| !o.words.is_empty()) else {
-        eprintln!("{USAGE}");
-        println!("0 passed, 1 failed");
-        return ExitCode::FAILURE;
+        return misused(USAGE);
     };
     let form = Form::asked(&options);
     let mut tally = Tally {
@@ -43,12 +41,7 @@ fn main() -> ExitCode {
         tally.try_bytes(name, &bytes);
     }
     tally.try_seeds(&options);
-    println!("{} passed, {} failed", tally.passed, tally.failed);
-    if tally.failed == 0 {
-        ExitCode::SUCCESS
-    } else {
-        ExitCode::FAILURE
-    }
+    ended(tally.passed, tally.failed)
 }
 
 /// Inputs of the lengths at which the program stops reading.

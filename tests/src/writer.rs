@@ -16,7 +16,7 @@ use std::time::{Duration, Instant};
 use comzsered::figures;
 use planner_tests::brute::{BAD_PLAN, NO_PLAN, NO_ROOM};
 use planner_tests::generate::Random;
-use planner_tests::options::Options;
+use planner_tests::options::{ended, misused, Options};
 use planner_tests::oracle::{self, BAD_FIELD, BAD_SIZE, MAX_BYTES, TOO_MANY};
 use planner_tests::planning::light;
 use planner_tests::writing::check::{with_more_behind, Trial, GUARD};
@@ -40,9 +40,7 @@ fn main() -> ExitCode {
     let names = ["--seconds", "--count", "--seed", "--index", "--trace"];
     let options = Options::from_command_line(&names).filter(|o| o.words.is_empty());
     let Some(options) = options else {
-        eprintln!("{USAGE}");
-        println!("0 passed, 1 failed");
-        return ExitCode::FAILURE;
+        return misused(USAGE);
     };
     let mut total = Total::default();
     by_hand(&mut total);
@@ -55,12 +53,7 @@ fn main() -> ExitCode {
         }
         None => many_tables(&options, &mut total),
     }
-    println!("{} passed, {} failed", total.passed, total.failed);
-    if total.failed == 0 {
-        ExitCode::SUCCESS
-    } else {
-        ExitCode::FAILURE
-    }
+    ended(total.passed, total.failed)
 }
 
 /// What came of all tables and calls.

@@ -20,7 +20,7 @@ use std::time::{Duration, Instant};
 
 use check::Check;
 use planner_tests::form::Form;
-use planner_tests::options::Options;
+use planner_tests::options::{ended, misused, Options};
 use planner_tests::oracle::LINE;
 use planner_tests::planning::{class, Class};
 use tally::Calls;
@@ -64,9 +64,7 @@ fn main() -> ExitCode {
     ];
     let options = Options::from_command_line(&names).filter(|o| o.words.is_empty());
     let Some(options) = options else {
-        eprintln!("{USAGE}");
-        println!("0 passed, 1 failed");
-        return ExitCode::FAILURE;
+        return misused(USAGE);
     };
     let form = Form::asked(&options);
     let mut total = Total::default();
@@ -75,12 +73,7 @@ fn main() -> ExitCode {
         Some(index) => one_sheet(form, &options, index, &mut total),
         None => many_sheets(form, &options, &mut total),
     }
-    println!("{} passed, {} failed", total.passed, total.failed);
-    if total.failed == 0 {
-        ExitCode::SUCCESS
-    } else {
-        ExitCode::FAILURE
-    }
+    ended(total.passed, total.failed)
 }
 
 /// What came of all sheets.
