@@ -1,8 +1,8 @@
 -- What is claimed of reader and writer as a pair, over the tables that `sheet::read` returns. Assumes nothing.
 use Prim.Native.Nat.{ℕ, _≤_}
 use native.Mathlib.Omega.{arith}
-use mathlib.Core.List.{List, [], _∷_, map}
-use mathlib.Core.Path.{_≡_, refl, sym, ap, _∙_}
+use mathlib.Core.List.{List, map, map-id}
+use mathlib.Core.Path.{_≡_, refl, sym, _∙_}
 use lib.ListN.{length, take, length-map}
 use lib.Seq.{take-at}
 use Rattle.scope.specs.Sheet.{Sheet, fieldCount}
@@ -42,10 +42,6 @@ front : {A : Type 0} (n : ℕ) (f : A → ℕ) (l : List A) → take (length l) 
 unfolding padded
 front n f l = take-at (map f l) _ (length l) (length-map l f)
 
-all-points : (l : List ℕ) → map pointOf l ≡ l
-all-points [] = refl
-all-points (p ∷ l) = ap (λ r. p ∷ r) (all-points l)
-
 filled-holds : (t : Sheet) → Holds (handed (filled t)) t
 unfolding tables
 filled-holds t = record {
@@ -57,7 +53,7 @@ filled-holds t = record {
   kinds = front _ kindOf (t .gates);
   lefts = front _ leftOf (t .gates);
   rights = front _ rightOf (t .gates);
-  points = front _ pointOf (t .rules) ∙ all-points (t .rules);
+  points = front _ pointOf (t .rules) ∙ map-id (t .rules);
   firsts = front _ (literalAt 0) (t .wishes);
   seconds = front _ (literalAt 1) (t .wishes);
   thirds = front _ (literalAt 2) (t .wishes);

@@ -39,7 +39,7 @@ module _ {X : Type 0} (f : X → ℕ) (d : X) where
 
 -- ---- entries
 
-entry-at : {Y : Type 0} (F : ℕ → Y) (d : Y) (k i : ℕ) → i < k → getD (entries F k) i d ≡ F i
+pub entry-at : {Y : Type 0} (F : ℕ → Y) (d : Y) (k i : ℕ) → i < k → getD (entries F k) i d ≡ F i
 unfolding entries
 entry-at F d zero i h = absurd (omega arith)
 entry-at F d (suc k) i h = up-to k (λ j l. List·getD-append (entries F k) (F k ∷ []) d j (omega (arith, length-entries F k)) ∙ entry-at F d k j l) (getD-at (entries F k) (F k) [] d k (length-entries F k)) i h

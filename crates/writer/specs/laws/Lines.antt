@@ -16,6 +16,7 @@ use Rattle.scope.specs.Tables.{Tables}
 use Rattle.scope.specs.Writing.{entries, gateAt, ruleAt, wishAt, tableLines}
 use Rattle.scope.specs.laws.Tests.{clash}
 use Rattle.scope.specs.laws.Writing.{length-entries}
+use Rattle.scope.specs.laws.Held.{entry-at}
 use Rattle.sheet.specs.Lines.{letterFrom, numbersFrom, lineFrom}
 use Rattle.sheet.specs.Columns.{numberFrom}
 use Rattle.sheet.specs.declared.field.Number as field
@@ -67,20 +68,9 @@ module _ (n : ℕ) (l : made.Line) (s : Line) (e : lineFrom n l ≡ some s) wher
 getD-right : {A : Type 0} (r s : List A) (k m : ℕ) (d : A) → length r ≡ m → m ≤ k → getD (r ++ s) k d ≡ getD s (k - m) d
 getD-right r s k m d e h = let f : k ≡ length r + (k - m) = omega arith in ap (λ j. getD (r ++ s) j d) f ∙ getD-append-add r s (k - m) d
 
+-- before some others
 getD-left : {A : Type 0} (r s : List A) (k m : ℕ) (d : A) → length r ≡ m → k < m → getD (r ++ s) k d ≡ getD r k d
 getD-left r s k m d e h = List·getD-append r s d k (omega arith)
-
-getD-entries : {A : Type 0} (f : ℕ → A) (n k : ℕ) (d : A) → k < n → getD (entries f n) k d ≡ f k
-unfolding entries
-getD-entries f zero k d h = absurd (omega arith)
-getD-entries f (suc n) k d h = go (decLe n k) (getD-entries f n k d)
-  where
-    go : Dec (n ≤ k) → (k < n → getD (entries f n) k d ≡ f k) → getD (entries f n ++ f n ∷ []) k d ≡ f k
-    go (yes i) rest =
-        let e : k ≡ n = omega arith in
-        let z : k - n ≡ 0 = omega arith in
-        getD-right (entries f n) (f n ∷ []) k n d (length-entries f n) i ∙ ap (λ j. getD (f n ∷ []) j d) z ∙ ap f (sym e)
-    go (no i) rest = let l : k < n = omega arith in getD-left (entries f n) (f n ∷ []) k n d (length-entries f n) l ∙ rest l
 
 module _ (n : ℕ) (u : Tables) (d : Line) where
   abbrev g : ℕ
@@ -92,6 +82,7 @@ module _ (n : ℕ) (u : Tables) (d : Line) where
   abbrev w : ℕ
   w = u .wishes
 
+  -- the lines of each kind
   gates : List Line
   gates = entries (gateAt n u) g
 
@@ -112,13 +103,13 @@ module _ (n : ℕ) (u : Tables) (d : Line) where
       go : Dec (g ≤ i) → Dec (r ≤ i - g) → getD (gates ++ rules ++ wishes) i d ≡ afterHead n u i
       go (no a) b =
           let l : i < g = omega arith in
-          getD-left (gates ++ rules) wishes i (g + r) d both-length (omega arith) ∙ getD-left gates rules i g d (length-entries (gateAt n u) g) l ∙ getD-entries (gateAt n u) g i d l ∙ rw (lt-ltb i g l)
+          getD-left (gates ++ rules) wishes i (g + r) d both-length (omega arith) ∙ getD-left gates rules i g d (length-entries (gateAt n u) g) l ∙ entry-at (gateAt n u) d g i l ∙ rw (lt-ltb i g l)
       go (yes a) (no b) =
           let l : i - g < r = omega arith in
-          getD-left (gates ++ rules) wishes i (g + r) d both-length (omega arith) ∙ getD-right gates rules i g d (length-entries (gateAt n u) g) a ∙ getD-entries (ruleAt n u) r (i - g) d l ∙ rw (le-ltb i g a, lt-ltb (i - g) r l)
+          getD-left (gates ++ rules) wishes i (g + r) d both-length (omega arith) ∙ getD-right gates rules i g d (length-entries (gateAt n u) g) a ∙ entry-at (ruleAt n u) d r (i - g) l ∙ rw (le-ltb i g a, lt-ltb (i - g) r l)
       go (yes a) (yes b) =
           let e : i - (g + r) ≡ i - g - r = omega arith in
-          getD-right (gates ++ rules) wishes i (g + r) d both-length (omega arith) ∙ getD-entries (wishAt n u) w (i - (g + r)) d (omega arith) ∙ rw (le-ltb i g a, le-ltb (i - g) r b, e)
+          getD-right (gates ++ rules) wishes i (g + r) d both-length (omega arith) ∙ entry-at (wishAt n u) d w (i - (g + r)) (omega arith) ∙ rw (le-ltb i g a, le-ltb (i - g) r b, e)
 
   pub line-at : (k : ℕ) → k < 1 + g + r + w → getD (tableLines n u) k d ≡ lineAt n u k
   unfolding tableLines lineAt gates rules wishes
