@@ -15,6 +15,7 @@ use borrow.Author.Tests.{ne-eqb, leb-true, ltb-true}
 use Rattle.scope.specs.Sheet.{Number, number, plus, fieldSize, digit, decimal, signed, justified, field, fits, fieldsBytes}
 use Rattle.scope.specs.laws.Tests.{clash, both}
 use Rattle.scope.specs.Reading.{lineSize}
+use Rattle.scope.specs.laws.Steps.{all-take}
 use Rattle.scope.specs.laws.Fields.{length-snoc, by-digits, length-field}
 use Rattle.scope.specs.laws.Lines.{Fit}
 use Rattle.writer.specs.Put.{put, put-next}
@@ -114,11 +115,6 @@ unfolding fieldsFront
 front-snoc [] x = append-nil (field x)
 front-snoc (y ∷ xs) x = ap (λ s. field y ++ s) (front-snoc xs x) ∙ sym (append-assoc (field y) (fieldsFront xs) (field x))
 
-fit-take : (i : ℕ) (xs : List Number) → Fit xs → Fit (take i xs)
-fit-take zero xs f = tt
-fit-take (suc i) [] f = tt
-fit-take (suc i) (x ∷ xs) (p, f) = (p, fit-take i xs f)
-
 length-front : (xs : List Number) → Fit xs → length (fieldsFront xs) ≡ length xs * fieldSize
 unfolding fieldsFront
 length-front [] f = refl
@@ -131,7 +127,7 @@ module _ (out : List ℕ) (at : ℕ) (xs : List Number) (fit : Fit xs) (room : a
   pub next-field : (i : ℕ) (now next : List ℕ) → now ≡ put out at (fieldsFront (take i xs)) → i < length xs → next ≡ put now (at + i * fieldSize) (field (getD xs i (plus 0))) → next ≡ put out at (fieldsFront (take (i + 1) xs))
   next-field i now next e h f =
       let done : List Number = take i xs in
-      let n : length (fieldsFront done) ≡ i * fieldSize = length-front done (fit-take i xs fit) ∙ ap (λ m. m * fieldSize) (length-take-le i xs (omega arith)) in
+      let n : length (fieldsFront done) ≡ i * fieldSize = length-front done (all-take (λ x. fits x ≡ true) i xs fit) ∙ ap (λ m. m * fieldSize) (length-take-le i xs (omega arith)) in
       let t : take (i + 1) xs ≡ done ++ getD xs i (plus 0) ∷ [] = ap (λ m. take m xs) (add-one i) ∙ take-suc xs i (plus 0) h in
       f ∙ ap (λ o. put o (at + i * fieldSize) (field (getD xs i (plus 0)))) e
       ∙ put-next out at (fieldsFront done) (omega arith) (field (getD xs i (plus 0))) (at + i * fieldSize) (omega arith)
@@ -146,8 +142,3 @@ line-put out o₁ o₂ now at letter n xs f e room a b c =
     let p : o₂ ≡ put out at (letter ∷ s) = b ∙ ap (λ o. put o (at + 1) s) a ∙ put-next out at (letter ∷ []) (omega arith) s (at + 1) refl in
     c ∙ ap (λ o. put o (at + 1 + n * fieldSize) (code "\n" ∷ [])) p
     ∙ put-next out at (letter ∷ s) (omega arith) (code "\n" ∷ []) (at + 1 + n * fieldSize) (omega arith) ∙ ap (λ r. put out at (letter ∷ r)) (sym (front-line xs))
-
-pub fit-at : (i : ℕ) (xs : List Number) → Fit xs → i < length xs → fits (getD xs i (plus 0)) ≡ true
-fit-at i [] f h = absurd (omega arith)
-fit-at zero (x ∷ xs) (p, f) h = p
-fit-at (suc i) (x ∷ xs) (p, f) h = fit-at i xs f (omega arith)

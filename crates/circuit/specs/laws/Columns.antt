@@ -12,13 +12,8 @@ use lib.Dec.{eqb}
 use lib.ListN.{length, getD, drop}
 use lib.Seq.{drop-cons}
 use borrow.Author.Tests.{eqb-true, eqb-false}
-use Rattle.scope.specs.Sheet.{Gate, All, Among, Names, Ordered}
+use Rattle.scope.specs.Sheet.{Gate, Among, Names, Ordered}
 use Rattle.circuit.specs.Lent.{rows, gateOf}
-
-pub all-at : {A : Type 0} (P : A → Type 0) (s : List A) (d : A) (i : ℕ) → All P s → i < length s → P (getD s i d)
-all-at P [] d i h l = absurd (omega arith)
-all-at P (a ∷ s) d zero h l = h .0
-all-at P (a ∷ s) d (suc i) h l = all-at P s d i (h .1) (omega arith)
 
 -- ---- rows
 

@@ -9,7 +9,8 @@ use Rattle.scope.specs.Sheet.{Clause, All, Wish}
 use Rattle.scope.specs.Meaning.{kept, cost}
 use Rattle.scope.specs.laws.Wishes.{cost-most, cost-one, cost-together}
 use Rattle.circuit.specs.Lent.{clauseOf, wishesOf, wishSheet, Columns}
-use Rattle.circuit.specs.laws.Columns.{all-at, length-rows, row-at, row-drop}
+use Rattle.scope.specs.laws.Steps.{all-at}
+use Rattle.circuit.specs.laws.Columns.{length-rows, row-at, row-drop}
 
 module _ {n : ℕ} {first second third : List ℕ} (h : Columns n first second third) where
   abbrev ws : List Clause

@@ -335,9 +335,9 @@ module _ (n : ℕ) (wide : 3 ≤ n) where
 
 -- ---- the whole sheet
 
-all-at : {X : Type 0} (P : X → Type 0) (vs : List X) (w : X) (ws : List X) → All P (vs ++ w ∷ ws) → P w
-all-at P [] w ws h = h .0
-all-at P (v ∷ vs) w ws h = all-at P vs w ws (h .1)
+all-middle : {X : Type 0} (P : X → Type 0) (vs : List X) (w : X) (ws : List X) → All P (vs ++ w ∷ ws) → P w
+all-middle P [] w ws h = h .0
+all-middle P (v ∷ vs) w ws h = all-middle P vs w ws (h .1)
 
 ordered-at : (m : ℕ) (vs : List Gate) (w : Gate) (ws : List Gate) → Ordered m (vs ++ w ∷ ws) → Names (m + length vs) w
 ordered-at m [] w ws h = rw add-zero (h .0)
@@ -401,10 +401,10 @@ module _ (n : ℕ) (wide : 3 ≤ n) (t : Sheet) (v : Valid t) (s : List ℕ) (pr
       gates vs w us k e h = gate-takes n wide a f vs w k h (omega (arith, ap length e, shorter vs w us, v .few-gates)) (ordered-at (a + f) vs w us (rw e at (v .gates)))
 
       rules : (vs : List ℕ) (w : ℕ) (us : List ℕ) (k : ℕ) → rs ≡ vs ++ w ∷ us → 0 < k → Met (rows (sheet a f gs vs []) k false R (filled n (plus w ∷ []))) × (make (sheet a f gs vs []) R (filled n (plus w ∷ [])) ≡ sheet a f gs (vs ++ w ∷ []) [])
-      rules vs w us k e h = rule-takes n wide a f gs vs w k h (omega (arith, ap length e, shorter vs w us, v .few-rules)) (all-at (Among (points t)) vs w us (rw e at (v .rules)))
+      rules vs w us k e h = rule-takes n wide a f gs vs w k h (omega (arith, ap length e, shorter vs w us, v .few-rules)) (all-middle (Among (points t)) vs w us (rw e at (v .rules)))
 
       wishes : (vs : List Clause) (w : Clause) (us : List Clause) (k : ℕ) → ws ≡ vs ++ w ∷ us → 0 < k → Met (rows (sheet a f gs rs vs) k false W (filled n w)) × (make (sheet a f gs rs vs) W (filled n w) ≡ sheet a f gs rs (vs ++ w ∷ []))
-      wishes vs w us k e h = wish-takes n wide a f gs rs vs w k h (omega (arith, ap length e, shorter vs w us, v .few-wishes)) (all-at (Wish a) vs w us (rw e at (v .wishes)))
+      wishes vs w us k e h = wish-takes n wide a f gs rs vs w k h (omega (arith, ap length e, shorter vs w us, v .few-wishes)) (all-middle (Wish a) vs w us (rw e at (v .wishes)))
 
       last : (k : ℕ) → k ≡ length (body n t) → 0 < k → suc k ≡ lineCount n s → From n s k z → readFrom n s 1 k t ≡ accepted t
       last k e h c (then l none-left) =

@@ -1,5 +1,5 @@
 -- A line that passes its tests is the next line of a valid sheet, printed. Assumes nothing.
-use Prim.Native.Nat.{ℕ, suc, _+_, _-_, _≤_, _<_}
+use Prim.Native.Nat.{ℕ, zero, suc, _+_, _-_, _≤_, _<_}
 use native.Mathlib.Nat.{add-zero, add-suc, suc-add, sub-zero}
 use native.Mathlib.Omega.{arith}
 use mathlib.Core.Bool.{Bool, true, false, cond, not, _&&_}
@@ -7,7 +7,7 @@ use mathlib.Core.List.{List, [], _∷_, _++_, map, append-assoc, append-nil, map
 use mathlib.Core.Logic.{_≢_}
 use mathlib.Core.Path.{_≡_, refl, sym, ap, ap₂, _∙_}
 use lib.Dec.{eqb, leb, ltb}
-use lib.ListN.{length, take, drop, replicate, length-drop, take-append-drop, replicate-append-replicate}
+use lib.ListN.{length, getD, take, drop, replicate, length-drop, take-append-drop, replicate-append-replicate}
 use lib.Seq.{take-suc, length-take-le}
 use borrow.Author.Tests.{eqb-true, leb-true, ltb-true, not-true}
 use Rattle.scope.specs.Sheet.{Number, number, plus, Clause, Gate, Sheet, points, Letter, H, N, A, O, R, W, Z, Line, line, filled, headLine, gateLine, ruleLine, wishLine, endLine, body, mostSwitches, mostFaults, mostGates, mostRules, mostWishes, mostLiterals, All, Among, Names, Ordered, Wish, Valid}
@@ -112,6 +112,16 @@ module _ (n : ℕ) where
 pub all-snoc : {A : Type 0} (P : A → Type 0) (s : List A) (a : A) → All P s → P a → All P (s ++ a ∷ [])
 all-snoc P [] a h p = (p, tt)
 all-snoc P (b ∷ s) a h p = (h .0, all-snoc P s a (h .1) p)
+
+pub all-at : {A : Type 0} (P : A → Type 0) (s : List A) (d : A) (i : ℕ) → All P s → i < length s → P (getD s i d)
+all-at P [] d i h l = absurd (omega arith)
+all-at P (a ∷ s) d zero h l = h .0
+all-at P (a ∷ s) d (suc i) h l = all-at P s d i (h .1) (omega arith)
+
+pub all-take : {A : Type 0} (P : A → Type 0) (k : ℕ) (s : List A) → All P s → All P (take k s)
+all-take P zero s h = tt
+all-take P (suc k) [] h = tt
+all-take P (suc k) (a ∷ s) h = (h .0, all-take P k s (h .1))
 
 ordered-snoc : (m : ℕ) (gs : List Gate) (g : Gate) → Ordered m gs → Names (m + length gs) g → Ordered m (gs ++ g ∷ [])
 ordered-snoc m [] g h p = (rw add-zero at p, tt)

@@ -1,12 +1,12 @@
 -- The lines of lent tables put into a buffer, and the whole sheet. Assumes nothing.
-use Prim.Native.Nat.{ℕ, zero, suc, _+_, _*_, _≤_, _<_}
+use Prim.Native.Nat.{ℕ, suc, _+_, _*_, _≤_, _<_}
 use native.Mathlib.Nat.{zero-add, suc-mul, mul-le-mul, mul-le-mul-right}
 use native.Mathlib.Numerals.{add-one}
 use native.Mathlib.Omega.{arith}
 use mathlib.Core.List.{List, [], _∷_, _++_}
 use mathlib.Core.Option.{some}
 use mathlib.Core.Path.{_≡_, sym, ap, ap₂, subst, _∙_}
-use lib.ListN.{length, getD, take, drop}
+use lib.ListN.{length, take, drop}
 use lib.Seq.{length-take-le, take-suc}
 use borrow.Author.Tests.{le-leb, lt-leb}
 use Rattle.scope.specs.Sheet.{Sheet, Letter, Line, H, line, lineBytes, letterByte, fieldsBytes, text, endLine, sheetBytes, All}
@@ -15,6 +15,7 @@ use Rattle.scope.specs.Jobs.{over}
 use Rattle.scope.specs.Tables.{Tables}
 use Rattle.scope.specs.Writing.{tableLines, readTables, written, write}
 use Rattle.scope.specs.laws.Lines.{Fit}
+use Rattle.scope.specs.laws.Steps.{all-take, all-at}
 use Rattle.scope.specs.laws.Inverse.{Good, length-text, text-snoc}
 use Rattle.scope.specs.laws.Writing.{length-lines, lines-good, sheet-text, sheet-size, few-lines}
 use Rattle.sheet.specs.Lines.{letterFrom, numbersFrom, lineFrom}
@@ -34,19 +35,9 @@ module _ (n : ℕ) (l : made.Line) (s : Line) (e : lineFrom n l ≡ some s) wher
 
 -- ---- several
 
-all-at : {A : Type 0} (P : A → Type 0) (l : List A) (k : ℕ) (d : A) → All P l → k < length l → P (getD l k d)
-all-at P [] k d h i = absurd (omega arith)
-all-at P (a ∷ l) zero d (p, h) i = p
-all-at P (a ∷ l) (suc k) d (p, h) i = all-at P l k d h (omega arith)
-
-all-take : {A : Type 0} (P : A → Type 0) (k : ℕ) (l : List A) → All P l → All P (take k l)
-all-take P zero l h = tt
-all-take P (suc k) [] h = tt
-all-take P (suc k) (a ∷ l) (p, h) = (p, all-take P k l h)
-
 module _ (n : ℕ) (u : Tables) (good : All (Good n) (tableLines n u)) where
   pub line-good : (k : ℕ) → k < length (tableLines n u) → Good n (lineAt n u k)
-  line-good k h = subst (Good n) (line-at n u (line H []) k (rw (length-lines n u) at h)) (all-at (Good n) (tableLines n u) k (line H []) good h)
+  line-good k h = subst (Good n) (line-at n u (line H []) k (rw (length-lines n u) at h)) (all-at (Good n) (tableLines n u) (line H []) k good h)
 
   -- the first k lines are there, and line k is put
   pub next-line : (out : List ℕ) (k size : ℕ) (now next : List ℕ) → size ≡ lineSize n → length (tableLines n u) * size ≤ length out → k < length (tableLines n u)

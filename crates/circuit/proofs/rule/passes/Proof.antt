@@ -7,7 +7,7 @@ use borrow.Author.Needs.{needs}
 use Rattle.scope.specs.Meaning.{all, truth, passes}
 use Rattle.scope.specs.Sheet.{Among}
 use Rattle.circuit.specs.Lent.{circuit}
-use Rattle.circuit.specs.laws.Columns.{all-at}
+use Rattle.scope.specs.laws.Steps.{all-at}
 use Rattle.circuit.specs.laws.Patterns.{all-more, all-stop, all-end}
 use Rattle.circuit.proofs.rule.passes.Statement.{statement}
 use Rattle.circuit.proofs.rule.passes.Tie as tie

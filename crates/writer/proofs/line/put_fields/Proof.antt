@@ -5,11 +5,12 @@ use lib.ListN.{length, take}
 use lib.Seq.{take-all}
 use borrow.Author.Needs.{needs}
 use mathlib.Core.Bool.{true}
-use Rattle.scope.specs.Sheet.{fits}
+use Rattle.scope.specs.Sheet.{plus, fits}
+use Rattle.scope.specs.laws.Steps.{all-at}
 use Rattle.sheet.specs.Lines.{numbersFrom}
 use Rattle.sheet.specs.laws.Numbers.{length-numbers}
 use Rattle.writer.specs.Put.{put, put-nothing}
-use Rattle.writer.specs.Fields.{fieldsFront, next-field, fit-at}
+use Rattle.writer.specs.Fields.{fieldsFront, next-field}
 use Rattle.writer.proofs.line.put_fields.Statement.{statement}
 use Rattle.writer.proofs.line.put_fields.Tie as tie
 
@@ -31,7 +32,7 @@ field-bytes-requires c κs =
     let s = c .before .before .before .before in
     let w : length (s .args .xs) ≡ 4 = search needs in
     let n = length-numbers (s .args .n) (s .args .xs) (omega (arith, s .pre .0)) in
-    subst (λ x. fits x ≡ true) (sym (c .nth .ensures)) (fit-at _ (numbersFrom (s .args .n) (s .args .xs)) (s .pre .1) (omega (arith, c .before .loop-test .taken)))
+    subst (λ x. fits x ≡ true) (sym (c .nth .ensures)) (all-at (λ x. fits x ≡ true) (numbersFrom (s .args .n) (s .args .xs)) (plus 0) _ (s .pre .1) (omega (arith, c .before .loop-test .taken)))
 
 mul-put-columns : tie.Need-mul-put-columns Inv-loop μ-loop
 mul-put-columns c = search needs
