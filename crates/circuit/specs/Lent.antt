@@ -1,5 +1,5 @@
 -- What lent columns and answers say: gates, wishes, and the sheets that they make. Assumes nothing.
-use Prim.Native.Nat.{ℕ, _+_, _/_, _%_, _≤_}
+use Prim.Native.Nat.{ℕ, _+_, _≤_}
 use Prim.Native.Char.{code}
 use mathlib.Core.Bool.{cond}
 use mathlib.Core.List.{List, [], _∷_, _++_}
@@ -7,7 +7,8 @@ use mathlib.Core.Option.{Option, none, some}
 use mathlib.Core.Path.{_≡_}
 use lib.Dec.{eqb}
 use lib.ListN.{length}
-use Rattle.scope.specs.Sheet.{number, Clause, Gate, Sheet, sheet, mostSwitches, mostFaults, mostGates, mostWishes, All, Ordered, Wish}
+use Rattle.scope.specs.Sheet.{Clause, Gate, Sheet, sheet, mostSwitches, mostFaults, mostGates, mostWishes, All, Ordered, Wish}
+use Rattle.scope.specs.Tables.{literalFrom}
 use Rattle.circuit.specs.declared.rule.Missed.{Missed}
 use Rattle.circuit.specs.declared.rule.Missed.the-variants.{Nothing, At}
 
@@ -49,7 +50,7 @@ pub record Gates (a f : ℕ) (kind left right : List ℕ) : Type 0 where
 
 -- 0 is no literal, 2k is k, and 2k + 1 is -k
 unfoldable pub literalsOf : ℕ → Clause
-literalsOf c = cond (eqb c 0) [] (number (eqb (c % 2) 1) (c / 2) ∷ [])
+literalsOf c = cond (eqb c 0) [] (literalFrom c ∷ [])
 
 unfoldable pub clauseOf : (x y z : ℕ) → Clause
 clauseOf x y z = literalsOf x ++ (literalsOf y ++ literalsOf z)

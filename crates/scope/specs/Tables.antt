@@ -1,11 +1,12 @@
 -- The tables of a sheet as a caller lends them, and which sheet they hold. Assumes nothing.
-use Prim.Native.Nat.{ℕ, _+_, _*_}
+use Prim.Native.Nat.{ℕ, _+_, _*_, _/_, _%_}
 use Prim.Native.Char.{code}
 use mathlib.Core.Bool.{cond}
 use mathlib.Core.List.{List, map}
 use mathlib.Core.Path.{_≡_}
+use lib.Dec.{eqb}
 use lib.ListN.{length, getD, take}
-use Rattle.scope.specs.Sheet.{Number, plus, Clause, Gate, Sheet}
+use Rattle.scope.specs.Sheet.{Number, number, plus, Clause, Gate, Sheet}
 
 -- counts, and a column for each word of a gate, rule or wish; words beyond the counts are ignored
 pub record Tables : Type 0 where
@@ -41,6 +42,10 @@ rightOf (Gate.or p q) = q
 -- a literal: k as 2k, -k as 2k + 1
 abbrev pub literalCode : Number → ℕ
 literalCode x = cond (x .minus) (x .size * 2 + 1) (x .size * 2)
+
+-- and back
+abbrev pub literalFrom : ℕ → Number
+literalFrom c = number (eqb (c % 2) 1) (c / 2)
 
 -- literal i of a wish, and 0 past its last
 abbrev pub literalAt : ℕ → Clause → ℕ

@@ -1,5 +1,5 @@
 -- Writing tables as a sheet: the lines that they would stand on are tested as the reader tests lines, then printed. Assumes nothing.
-use Prim.Native.Nat.{ℕ, zero, suc, _/_, _%_}
+use Prim.Native.Nat.{ℕ, zero, suc}
 use Prim.Native.Char.{code}
 use mathlib.Core.Bool.{true, false, cond}
 use mathlib.Core.List.{List, [], _∷_, _++_}
@@ -11,7 +11,7 @@ use Rattle.scope.specs.Reading as reading
 use Rattle.scope.specs.Texts.{FirstLine}
 use Rattle.scope.specs.Parsing.{firstLine}
 use Rattle.scope.specs.Jobs.{over}
-use Rattle.scope.specs.Tables.{Tables, Holds}
+use Rattle.scope.specs.Tables.{Tables, literalFrom, Holds}
 
 -- ---- a word of a column as a number
 
@@ -21,10 +21,6 @@ nowhere = number true 0
 
 abbrev pub word : (ℕ → Number) → List ℕ → ℕ → Number
 word f c i = cond (ltb i (length c)) (f (getD c i 0)) nowhere
-
--- 2k as k, 2k + 1 as -k
-abbrev pub literalFrom : ℕ → Number
-literalFrom c = number (eqb (c % 2) 1) (c / 2)
 
 -- ---- the lines, each of n fields
 

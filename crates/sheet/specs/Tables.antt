@@ -7,6 +7,7 @@ use Rattle.scope.specs.Sheet.{Sheet, mostGates, mostRules, mostWishes}
 use Rattle.scope.specs.Reading.{started, Read, accepted, refused}
 use Rattle.scope.specs.Source.{Source}
 use Rattle.scope.specs.Tables.{kindOf, leftOf, rightOf, literalAt}
+use Rattle.scope.specs.Tables as scope
 use Rattle.sheet.specs.declared.tables.Tables.{Tables}
 
 -- n words: f of each entry, then zeros
@@ -44,6 +45,23 @@ refusal n k c = tables n k c (started 0 0)
 abbrev pub outcome : Read → Tables
 outcome (accepted t) = filled t
 outcome (refused n k c) = refusal n k c
+
+-- as a caller lends them
+abbrev pub lent : Tables → scope.Tables
+lent u = record {
+  switches = u .switches;
+  faults = u .faults;
+  gates = u .gates;
+  rules = u .rules;
+  wishes = u .wishes;
+  kind = u .kind;
+  left = u .left;
+  right = u .right;
+  rule = u .rule;
+  first = u .first;
+  second = u .second;
+  third = u .third;
+}
 
 -- the tables of some source
 pub record Sourced (u : Tables) : Type 0 where

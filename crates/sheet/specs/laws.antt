@@ -3,3 +3,4 @@ pub mod Outcomes
 pub mod Rows
 pub mod Held
 pub mod Numbers
+pub mod Lent

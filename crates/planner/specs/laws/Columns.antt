@@ -1,24 +1,22 @@
 -- A reader's tables, cut to their counts, are the columns of the sheet that was read. Assumes nothing.
-use Prim.Native.Nat.{ℕ, _+_, _-_, _*_, _/_, _%_, _≤_}
+use Prim.Native.Nat.{ℕ, _+_, _-_, _*_, _≤_}
 use native.Mathlib.Omega.{arith}
-use mathlib.Core.Bool.{Bool, true, false}
+use mathlib.Core.Bool.{Bool, true, false, cond}
 use mathlib.Core.List.{List, [], _∷_, map}
+use mathlib.Core.Logic.{_≢_}
 use mathlib.Core.Path.{_≡_, refl, sym, ap, ap₂, _∙_}
 use lib.ListN.{length, take, replicate, length-append, length-map}
-use lib.Seq.{take-at}
-use borrow.Author.Tests.{eq-eqb, ne-eqb}
+use borrow.Author.Tests.{ne-eqb}
 use Rattle.scope.specs.Sheet.{Number, number, Clause, Gate, Sheet, sheet, mostGates, mostRules, mostWishes, All, Among, Wish, Valid}
 use Rattle.scope.specs.Reading.{Read, accepted, refused, started}
 use Rattle.circuit.specs.Lent.{Columns, rows, gateOf, gatesOf, literalsOf, clauseOf, wishesOf, Gates, Clauses, circuit}
 use Rattle.sheet.specs.declared.tables.Tables.{Tables}
-use Rattle.scope.specs.Tables.{kindOf, leftOf, rightOf, literalCode, literalAt}
-use Rattle.sheet.specs.Tables.{padded, pointOf, tables, outcome, Sourced}
+use Rattle.scope.specs.Tables.{kindOf, leftOf, rightOf, literalCode, literalAt, Holds}
+use Rattle.scope.specs.laws.Held.{from-code}
+use Rattle.sheet.specs.Tables.{padded, pointOf, tables, outcome, lent, Sourced}
+use Rattle.sheet.specs.laws.Lent.{filled-holds}
 
 -- ---- what was coded is read again
-
-cut : {A : Type 0} (n : ℕ) (f : A → ℕ) (l : List A) → take (length l) (padded n f l) ≡ map f l
-unfolding padded
-cut n f l = take-at (map f l) (replicate (n - length l) 0) (length l) (length-map l f)
 
 gates-back : (gs : List Gate) → gatesOf (map kindOf gs) (map leftOf gs) (map rightOf gs) ≡ gs
 unfolding rows gateOf
@@ -29,15 +27,11 @@ gates-back (Gate.or p q ∷ gs) = ap (λ l. Gate.or p q ∷ l) (gates-back gs)
 
 literal-back : (x : Number) → 1 ≤ x .size → literalsOf (literalCode x) ≡ x ∷ []
 unfolding literalsOf
-literal-back x h = go (x .minus) (x .size) h
+literal-back x h = rw (ne-eqb (literalCode x) 0 (code-there (x .minus)), from-code x)
   where
-    go : (m : Bool) (k : ℕ) → 1 ≤ k → literalsOf (literalCode (number m k)) ≡ number m k ∷ []
-    go true k h =
-        let half : (k * 2 + 1) / 2 ≡ k = omega arith in
-        rw (ne-eqb (k * 2 + 1) 0 (λ e. omega arith), eq-eqb ((k * 2 + 1) % 2) 1 (omega arith), half)
-    go false k h =
-        let half : k * 2 / 2 ≡ k = omega arith in
-        rw (ne-eqb (k * 2) 0 (λ e. omega arith), ne-eqb (k * 2 % 2) 1 (λ e. omega arith), half)
+    code-there : (m : Bool) → cond m (x .size * 2 + 1) (x .size * 2) ≢ 0
+    code-there true e = omega arith
+    code-there false e = omega arith
 
 clause-back : (a : ℕ) (w : Clause) → Wish a w → clauseOf (literalAt 0 w) (literalAt 1 w) (literalAt 2 w) ≡ w
 unfolding clauseOf literalsOf
@@ -52,40 +46,12 @@ unfolding rows
 wishes-back a [] h = refl
 wishes-back a (w ∷ ws) (p, h) = ap₂ (λ v vs. v ∷ vs) (clause-back a w p) (wishes-back a ws h)
 
-map-point : (l : List ℕ) → map pointOf l ≡ l
-map-point [] = refl
-map-point (p ∷ l) = ap (λ r. p ∷ r) (map-point l)
-
 -- ---- the columns of an accepted sheet
 
-pub record Cut (t : Sheet) (u : Tables) : Type 0 where
-  pub number : u .number ≡ 0
-  pub switches : u .switches ≡ t .switches
-  pub faults : u .faults ≡ t .faults
-  pub kind : take (u .gates) (u .kind) ≡ map kindOf (t .gates)
-  pub left : take (u .gates) (u .left) ≡ map leftOf (t .gates)
-  pub right : take (u .gates) (u .right) ≡ map rightOf (t .gates)
-  pub rule : take (u .rules) (u .rule) ≡ t .rules
-  pub first : take (u .wishes) (u .first) ≡ map (literalAt 0) (t .wishes)
-  pub second : take (u .wishes) (u .second) ≡ map (literalAt 1) (t .wishes)
-  pub third : take (u .wishes) (u .third) ≡ map (literalAt 2) (t .wishes)
+pub accepted-holds : (t : Sheet) (u : Tables) (o : Read) → u ≡ outcome o → o ≡ accepted t → Holds (lent u) t
+accepted-holds t u o e f = rw (e ∙ ap outcome f) (filled-holds t)
 
-pub cut-accepted : (t : Sheet) (u : Tables) (o : Read) → u ≡ outcome o → o ≡ accepted t → Cut t u
-unfolding tables
-cut-accepted t u o e f = rw (e ∙ ap outcome f) record {
-  number = refl;
-  switches = refl;
-  faults = refl;
-  kind = cut mostGates kindOf (t .gates);
-  left = cut mostGates leftOf (t .gates);
-  right = cut mostGates rightOf (t .gates);
-  rule = cut mostRules pointOf (t .rules) ∙ map-point (t .rules);
-  first = cut mostWishes (literalAt 0) (t .wishes);
-  second = cut mostWishes (literalAt 1) (t .wishes);
-  third = cut mostWishes (literalAt 2) (t .wishes);
-}
-
-module _ (t : Sheet) (v : Valid t) (u : Tables) (c : Cut t u) where
+module _ (t : Sheet) (v : Valid t) (u : Tables) (c : Holds (lent u) t) where
   abbrev kinds : List ℕ
   kinds = take (u .gates) (u .kind)
 
@@ -105,22 +71,22 @@ module _ (t : Sheet) (v : Valid t) (u : Tables) (c : Cut t u) where
   thirds = take (u .wishes) (u .third)
 
   pub gates-are : gatesOf kinds lefts rights ≡ t .gates
-  gates-are = rw (c .kind, c .left, c .right) (gates-back (t .gates))
+  gates-are = rw (c .kinds, c .lefts, c .rights) (gates-back (t .gates))
 
   pub wishes-are : wishesOf firsts seconds thirds ≡ t .wishes
-  wishes-are = rw (c .first, c .second, c .third) (wishes-back (t .switches) (t .wishes) (v .wishes))
+  wishes-are = rw (c .firsts, c .seconds, c .thirds) (wishes-back (t .switches) (t .wishes) (v .wishes))
 
   length-kinds : length kinds ≡ length (t .gates)
-  length-kinds = rw (c .kind) (length-map (t .gates) kindOf)
+  length-kinds = rw (c .kinds) (length-map (t .gates) kindOf)
 
   length-firsts : length firsts ≡ length (t .wishes)
-  length-firsts = rw (c .first) (length-map (t .wishes) (literalAt 0))
+  length-firsts = rw (c .firsts) (length-map (t .wishes) (literalAt 0))
 
   pub wish-columns : Columns mostWishes firsts seconds thirds
   wish-columns = record {
     few = omega (arith, length-firsts, v .few-wishes);
-    seconds = rw (c .second, c .first) (length-map (t .wishes) (literalAt 1) ∙ sym (length-map (t .wishes) (literalAt 0)));
-    thirds = rw (c .third, c .first) (length-map (t .wishes) (literalAt 2) ∙ sym (length-map (t .wishes) (literalAt 0)));
+    seconds = rw (c .seconds, c .firsts) (length-map (t .wishes) (literalAt 1) ∙ sym (length-map (t .wishes) (literalAt 0)));
+    thirds = rw (c .thirds, c .firsts) (length-map (t .wishes) (literalAt 2) ∙ sym (length-map (t .wishes) (literalAt 0)));
   }
 
   pub gates-fit : Gates (u .switches) (u .faults) kinds lefts rights
@@ -129,21 +95,21 @@ module _ (t : Sheet) (v : Valid t) (u : Tables) (c : Cut t u) where
     faults = rw (c .faults) (v .faults);
     columns = record {
       few = omega (arith, length-kinds, v .few-gates);
-      seconds = rw (c .left, c .kind) (length-map (t .gates) leftOf ∙ sym (length-map (t .gates) kindOf));
-      thirds = rw (c .right, c .kind) (length-map (t .gates) rightOf ∙ sym (length-map (t .gates) kindOf));
+      seconds = rw (c .lefts, c .kinds) (length-map (t .gates) leftOf ∙ sym (length-map (t .gates) kindOf));
+      thirds = rw (c .rights, c .kinds) (length-map (t .gates) rightOf ∙ sym (length-map (t .gates) kindOf));
     };
     ordered = rw (gates-are, c .switches, c .faults) (v .gates);
   }
 
   pub rules-fit : All (Among (u .switches + u .faults + length kinds)) (take (u .rules) (u .rule))
-  rules-fit = rw (c .rule, c .switches, c .faults, length-kinds) (v .rules)
+  rules-fit = rw (c .points, c .switches, c .faults, length-kinds) (v .rules)
 
   pub wishes-fit : Clauses (u .switches) firsts seconds thirds
   wishes-fit = record { switches = rw (c .switches) (v .switches); columns = wish-columns; wishes = rw (wishes-are, c .switches) (v .wishes) }
 
   -- the sheet without its wishes
   pub circuit-is : circuit (u .switches) (u .faults) kinds lefts rights (take (u .rules) (u .rule)) ≡ sheet (t .switches) (t .faults) (t .gates) (t .rules) []
-  circuit-is = rw (c .switches, c .faults, gates-are, c .rule)
+  circuit-is = rw (c .switches, c .faults, gates-are, c .points)
 
 -- ---- each count is within its array, also after a refusal
 

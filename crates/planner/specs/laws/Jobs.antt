@@ -22,9 +22,10 @@ use Rattle.search.specs.declared.best.Best.the-variants.{Nothing, At}
 use Rattle.search.specs.declared.run.Run as made
 use Rattle.search.specs.Table.{table, tableOf, Lent, bestOf, Priced, verdictFrom, Ran}
 use Rattle.sheet.specs.declared.tables.Tables.{Tables}
-use Rattle.sheet.specs.Tables.{outcome, Sourced}
+use Rattle.scope.specs.Tables.{Holds}
+use Rattle.sheet.specs.Tables.{outcome, lent, Sourced}
 use Rattle.sheet.specs.laws.Outcomes.{accepted-of, refused-of}
-use Rattle.planner.specs.laws.Columns.{Cut, cut-accepted, gates-fit, rules-fit, wishes-fit, wishes-are, circuit-is}
+use Rattle.planner.specs.laws.Columns.{accepted-holds, gates-fit, rules-fit, wishes-fit, wishes-are, circuit-is}
 
 -- ---- the sheet that was read
 
@@ -32,12 +33,12 @@ pub record Sheeted (r : Read) (u : Tables) : Type 0 where
   pub sheet : Sheet
   pub reads : r ≡ accepted sheet
   pub valid : Valid sheet
-  pub cut : Cut sheet u
+  pub cut : Holds (lent u) sheet
 
 pub sheeted : (r : Read) → Source r → (u : Tables) → u ≡ outcome r → u .number ≡ 0 → Sheeted r u
 sheeted r h u e z =
     let (t, f) = accepted-of r h u e z in
-    record { sheet = t; reads = f; valid = h .valid t f; cut = cut-accepted t u r e f }
+    record { sheet = t; reads = f; valid = h .valid t f; cut = accepted-holds t u r e f }
 
 pub told-sheet : (u : Tables) (h : Sourced u) → u .number ≡ 0 → Sheeted (h .told) u
 told-sheet u h z = sheeted (h .told) (h .source) u (h .tables) z

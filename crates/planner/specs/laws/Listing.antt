@@ -19,10 +19,11 @@ use Rattle.circuit.specs.Lent.{rows, Clauses, wishesOf, wishSheet}
 use Rattle.listing.specs.Rows.{Wrote, wrote-first, Small}
 use Rattle.listing.specs.Listing.{planRowsOf, listingRows}
 use Rattle.sheet.specs.declared.tables.Tables.{Tables}
-use Rattle.sheet.specs.Tables.{tables, outcome, Sourced}
+use Rattle.scope.specs.Tables.{Holds}
+use Rattle.sheet.specs.Tables.{tables, outcome, lent, Sourced}
 use Rattle.planner.specs.declared.outcome.Outcome.{Outcome}
 use Rattle.planner.specs.Figures.{resultOf, answerFrom}
-use Rattle.planner.specs.laws.Columns.{Cut, cut-accepted, wishes-fit, wishes-are}
+use Rattle.planner.specs.laws.Columns.{accepted-holds, wishes-fit, wishes-are}
 
 -- ---- figures that fit
 
@@ -40,7 +41,7 @@ unfolding tables rows
 clauses-any u h = go (h .told) refl
   where
     go : (o : Read) → h .told ≡ o → Clauses (u .switches) (take (u .wishes) (u .first)) (take (u .wishes) (u .second)) (take (u .wishes) (u .third))
-    go (accepted t) f = wishes-fit t (h .source .valid t f) u (cut-accepted t u (h .told) (h .tables) f)
+    go (accepted t) f = wishes-fit t (h .source .valid t f) u (accepted-holds t u (h .told) (h .tables) f)
     go (refused c place column) f = rw (h .tables ∙ ap outcome f) record { switches = omega arith; columns = record { few = omega arith; seconds = refl; thirds = refl }; wishes = tt }
 
 -- ---- the rows
@@ -50,7 +51,7 @@ wish-row : (t : Sheet) (p : ℕ) → wishRow (wishSheet (t .switches) []) p ≡ 
 unfolding kept switchOn
 wish-row t p = refl
 
-plan-rows : (t : Sheet) (u : Tables) (p : ℕ) (b : Bool) → Valid t → Cut t u → planRowsOf b (u .switches) p (wishesOf (take (u .wishes) (u .first)) (take (u .wishes) (u .second)) (take (u .wishes) (u .third))) ≡ cond b (planRows t p) []
+plan-rows : (t : Sheet) (u : Tables) (p : ℕ) (b : Bool) → Valid t → Holds (lent u) t → planRowsOf b (u .switches) p (wishesOf (take (u .wishes) (u .first)) (take (u .wishes) (u .second)) (take (u .wishes) (u .third))) ≡ cond b (planRows t p) []
 plan-rows t u p true v c = rw (wishes-are t v u c, c .switches) (ap (λ f. each switchRow 1 (bits (t .switches) p) ++ each f 1 (t .wishes)) (wish-row t p))
 plan-rows t u p false v c = refl
 
@@ -59,7 +60,7 @@ pub rows-are : (r : Read) → Source r → (u : Tables) (a : Answer) → u ≡ o
     → listingRows (a .result .number) (a .result .place) (third (a .result)) (planRowsOf (eqb (a .result .number) 0) (u .switches) (a .result .plan) (wishesOf (take (u .wishes) (u .first)) (take (u .wishes) (u .second)) (take (u .wishes) (u .third)))) (listed a) ≡ outputRows r
 unfolding outputRows
 rows-are (accepted t) h u a e f =
-    ap (λ rs. listingRows (a .result .number) (a .result .place) (third (a .result)) rs (listed a)) (plan-rows t u (a .result .plan) (eqb (a .result .number) 0) (h .valid t refl) (cut-accepted t u (accepted t) e refl))
+    ap (λ rs. listingRows (a .result .number) (a .result .place) (third (a .result)) rs (listed a)) (plan-rows t u (a .result .plan) (eqb (a .result .number) 0) (h .valid t refl) (accepted-holds t u (accepted t) e refl))
     ∙ ap (λ b. ended (answerRows (accepted t) b)) f
 rows-are (refused c place column) h u a e f =
     let z : eqb c 0 ≡ false = ne-eqb c 0 (omega (arith, h .refusal c place column refl .some)) in

@@ -12,8 +12,8 @@ use lib.Seq.{getD-at, ext-getD}
 use borrow.Author.Tests.{eqb-true, eqb-false, eq-eqb, ne-eqb, ltb-true, lt-ltb}
 use Rattle.scope.specs.Sheet.{Number, number, plus, Clause, Gate, Sheet, Letter, H, N, A, O, R, W, Z, letterByte, Line, line, filled, headLine, gateLine, ruleLine, wishLine, body, mostLiterals, All, Among, Wish, Valid}
 use Rattle.scope.specs.Reading.{at}
-use Rattle.scope.specs.Tables.{Tables, kindOf, leftOf, rightOf, literalCode, literalAt, Holds}
-use Rattle.scope.specs.Writing.{nowhere, word, literalFrom, entries, kindLine, gateAt, ruleAt, wishAt, tableLines}
+use Rattle.scope.specs.Tables.{Tables, kindOf, leftOf, rightOf, literalCode, literalFrom, literalAt, Holds}
+use Rattle.scope.specs.Writing.{nowhere, word, entries, kindLine, gateAt, ruleAt, wishAt, tableLines}
 use Rattle.scope.specs.laws.Tests.{clash, up-to}
 use Rattle.scope.specs.laws.Inverse.{all-append}
 use Rattle.scope.specs.laws.Writing.{length-entries, all-entries, by-kind}
@@ -97,7 +97,7 @@ code-from c = go (eqb (c % 2) 1) refl
     go true e = omega (arith, eqb-true (c % 2) 1 e)
     go false e = let h : c % 2 ≢ 1 = eqb-false (c % 2) 1 e in omega arith
 
-from-code : (x : Number) → literalFrom (literalCode x) ≡ x
+pub from-code : (x : Number) → literalFrom (literalCode x) ≡ x
 from-code x = go (x .minus) (x .size)
   where
     go : (m : Bool) (k : ℕ) → literalFrom (literalCode (number m k)) ≡ number m k

@@ -12,8 +12,8 @@ use borrow.Author.Tests.{eqb-true}
 use Rattle.scope.specs.Sheet.{Number, plus, Sheet, H, N, A, O, Line, line, text, filled, headLine, endLine, body, sheetLines, sheetBytes, All, Valid}
 use Rattle.scope.specs.Reading.{started, make, accepted, lineSize}
 use Rattle.scope.specs.Causes.{Met}
-use Rattle.scope.specs.Tables.{Tables}
-use Rattle.scope.specs.Writing.{nowhere, word, literalFrom, entries, kindLine, gateAt, ruleAt, wishAt, tableLines, rowsFrom, sheetFrom, tableRows, readTables}
+use Rattle.scope.specs.Tables.{Tables, literalFrom}
+use Rattle.scope.specs.Writing.{nowhere, word, entries, kindLine, gateAt, ruleAt, wishAt, tableLines, rowsFrom, sheetFrom, tableRows, readTables}
 use Rattle.scope.specs.laws.Tests.{clash}
 use Rattle.scope.specs.laws.Fields.{length-snoc}
 use Rattle.scope.specs.laws.Refusals.{not-both}
