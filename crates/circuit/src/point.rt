@@ -3,10 +3,9 @@ use crate::Pattern;
 use crate::Plan;
 ghost use mathlib.Core.List.{[]};
 ghost use mathlib.Core.Path.{_≡_};
-ghost use Prim.Native.Nat.{_+_, _/_, _%_, _^_, _≤_, _<_};
-ghost use lib.Dec.{eqb};
+ghost use Prim.Native.Nat.{_+_, _≤_};
 ghost use lib.ListN.{length};
-ghost use Rattle.scope.specs.Sheet.{Among};
+ghost use Rattle.scope.specs.Sheet.{mostSwitches, mostFaults, Among};
 ghost use Rattle.scope.specs.Meaning.{bits, nth};
 ghost use Rattle.scope.specs.Meaning as meaning;
 ghost use Rattle.circuit.specs.Lent.{circuit, Gates};
@@ -17,20 +16,28 @@ const NOT: u8 = b'N';
 
 const AND: u8 = b'A';
 
-// Binary digit k of n.
-pub fn bit(n: u32, k: u32) -> bool
-    requires { ⌜ k < 32 ⌝ }
-    ensures { λ r. ⌜ r ≡ eqb (n / 2 ^ k % 2) 1 ⌝ }
-{
-    (n >> k) % 2 == 1
-}
-
-// Digit p of n binary digits of a plan or a pattern, the first highest.
-pub fn digit(number: u32, n: u32, p: u32) -> bool
+// Digit p of n binary digits of a number, the first highest.
+fn digit(number: u32, n: u32, p: u32) -> bool
     requires { ⌜ (n ≤ 32) × Among n p ⌝ }
     ensures { λ r. ⌜ r ≡ nth (bits n number) p ⌝ }
 {
-    bit(number, n - p)
+    (number >> (n - p)) % 2 == 1
+}
+
+// Whether switch k of a is on in a plan.
+pub fn switch_on(plan: Plan, a: u32, k: u32) -> bool
+    requires { ⌜ (a ≤ mostSwitches) × Among a k ⌝ }
+    ensures { λ r. ⌜ r ≡ nth (bits a (plan .0)) k ⌝ }
+{
+    digit(plan.0, a, k)
+}
+
+// Whether fault k of f is in a pattern.
+fn fault_on(pattern: Pattern, f: u32, k: u32) -> bool
+    requires { ⌜ (f ≤ mostFaults) × Among f k ⌝ }
+    ensures { λ r. ⌜ r ≡ nth (bits f (pattern .0)) k ⌝ }
+{
+    digit(pattern.0, f, k)
 }
 
 fn wide(n: u32) -> usize
@@ -63,11 +70,11 @@ fn truth_at(
     ensures { λ r. ⌜ r ≡ meaning.truth (circuit a f (now (now (kind .entry))) (now (now (left .entry))) (now (now (right .entry))) []) (plan .0) (pattern .0) point ⌝ }
 {
     if point <= a {
-        return digit(plan.0, a, point);
+        return switch_on(plan, a, point);
     }
     let inputs = a + f;
     if point <= inputs {
-        return digit(pattern.0, f, point - a);
+        return fault_on(pattern, f, point - a);
     }
     let i = wide(point - inputs - 1);
     let k = kind[i];

@@ -1,6 +1,6 @@
 // Wishes: which are kept, and what a plan costs.
 use crate::Plan;
-use crate::point::digit;
+use crate::point::switch_on;
 ghost use mathlib.Core.List.{[]};
 ghost use mathlib.Core.Path.{_≡_};
 ghost use Prim.Native.Nat.{_≤_};
@@ -17,7 +17,7 @@ fn literal_true(code: u32, a: u32, plan: Plan) -> bool
     if code == 0 {
         return false;
     }
-    let on = digit(plan.0, a, code / 2);
+    let on = switch_on(plan, a, code / 2);
     if code % 2 == 1 {
         return !on;
     }

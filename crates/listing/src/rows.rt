@@ -38,7 +38,7 @@ pub fn put_switches(out: &mut [u8], at: usize, a: u32, plan: Plan)
 {
     let mut i: u32 = 0;
     while i < a {
-        let on = flag(circuit::point::digit(plan.0, a, i + 1));
+        let on = flag(circuit::point::switch_on(plan, a, i + 1));
         put_row(out, at + ROW_SIZE * wide(i), SWITCH, i + 1, on, 0);
         i += 1;
     }

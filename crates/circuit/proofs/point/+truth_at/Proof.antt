@@ -8,7 +8,8 @@ use Rattle.circuit.specs.laws.Points.{IsGate, at-switch, at-fault, left-
 use Rattle.circuit.proofs.point.truth_at.Reads as truth-at
 use Rattle.circuit.proofs.point.truth_at.Kinds as truth-at-kinds
 use Rattle.circuit.proofs.point.+truth_at.Lts-truth_at as truth-at-lts
-use Rattle.circuit.proofs.point.digit.Reads as digit-reads
+use Rattle.circuit.proofs.point.switch_on.Reads as switch-on-reads
+use Rattle.circuit.proofs.point.fault_on.Reads as fault-on-reads
 use Rattle.circuit.proofs.point.decides.Reads as decides-reads
 use Rattle.circuit.proofs.point.wide.Reads as wide-reads
 use Rattle.circuit.proofs.point.+truth_at.{statement}
@@ -25,31 +26,31 @@ abbrev truth-at-below : ℕ → In 6 truth-at-kinds.ps
 truth-at-below t = and 6 truth-at-kinds.ps (falls 6 truth-at-kinds.ps _<_ μ-truth-at t) truth-at.Pre
 
 abbrev calls : ℕ → truth-at-lts.Claims
-calls t = (digit-reads.Asked, digit-reads.Learnt, wide-reads.Asked, wide-reads.Learnt, truth-at-below t, truth-at.Post, decides-reads.Asked, decides-reads.Learnt)
+calls t = (switch-on-reads.Asked, switch-on-reads.Learnt, fault-on-reads.Asked, fault-on-reads.Learnt, wide-reads.Asked, wide-reads.Learnt, truth-at-below t, truth-at.Post, decides-reads.Asked, decides-reads.Learnt)
 
-truth-at-digit-requires : (t : ℕ) → truth-at-lts.Need-digit-requires (calls t) (truth-at-at t) truth-at.Post
-truth-at-digit-requires t c κs = search needs
+truth-at-switch-on-requires : (t : ℕ) → truth-at-lts.Need-switch-on-requires (calls t) (truth-at-at t) truth-at.Post
+truth-at-switch-on-requires t c κs = search needs
 
 truth-at-returns : (t : ℕ) → truth-at-lts.Need-returns (calls t) (truth-at-at t) truth-at.Post
 truth-at-returns t c =
     let s = c .before .before in
     let a = s .args in
-    c .digit .ensures ∙ at-switch (s .pre .1 .0) (a .plan .0) (a .pattern .0) (a .point) (s .pre .1 .1 .0, c .before .if1 .taken)
+    c .switch-on .ensures ∙ at-switch (s .pre .1 .0) (a .plan .0) (a .pattern .0) (a .point) (s .pre .1 .1 .0, c .before .if1 .taken)
 
 truth-at-add-inputs : (t : ℕ) → truth-at-lts.Need-add-inputs (calls t) (truth-at-at t) truth-at.Post
 truth-at-add-inputs t c = search needs
 
-truth-at-sub-digit : (t : ℕ) → truth-at-lts.Need-sub-digit (calls t) (truth-at-at t) truth-at.Post
-truth-at-sub-digit t c = search needs
+truth-at-sub-fault-on : (t : ℕ) → truth-at-lts.Need-sub-fault-on (calls t) (truth-at-at t) truth-at.Post
+truth-at-sub-fault-on t c = search needs
 
-truth-at-digit-requires-2 : (t : ℕ) → truth-at-lts.Need-digit-requires-2 (calls t) (truth-at-at t) truth-at.Post
-truth-at-digit-requires-2 t c κs = search needs
+truth-at-fault-on-requires : (t : ℕ) → truth-at-lts.Need-fault-on-requires (calls t) (truth-at-at t) truth-at.Post
+truth-at-fault-on-requires t c κs = search needs
 
 truth-at-returns-2 : (t : ℕ) → truth-at-lts.Need-returns-2 (calls t) (truth-at-at t) truth-at.Post
 truth-at-returns-2 t c =
     let s = c .before .before .before in
     let a = s .args in
-    c .digit2 .ensures ∙ at-fault (s .pre .1 .0) (a .plan .0) (a .pattern .0) (a .point) (c .before .before .if1 .left) (c .before .if2 .taken)
+    c .fault-on .ensures ∙ at-fault (s .pre .1 .0) (a .plan .0) (a .pattern .0) (a .point) (c .before .before .if1 .left) (c .before .if2 .taken)
 
 truth-at-sub-wide : (t : ℕ) → truth-at-lts.Need-sub-wide (calls t) (truth-at-at t) truth-at.Post
 truth-at-sub-wide t c = search needs
@@ -137,11 +138,11 @@ truth-at-returns-5 t c =
 
 pub +truth-at-spec : {M : Type 1} → statement M
 +truth-at-spec = close μ-truth-at λ t. truth-at-lts.spec (calls t) (truth-at-at t) truth-at.Post
-    (truth-at-digit-requires t)
+    (truth-at-switch-on-requires t)
     (truth-at-returns t)
     (truth-at-add-inputs t)
-    (truth-at-sub-digit t)
-    (truth-at-digit-requires-2 t)
+    (truth-at-sub-fault-on t)
+    (truth-at-fault-on-requires t)
     (truth-at-returns-2 t)
     (truth-at-sub-wide t)
     (truth-at-sub-wide-2 t)

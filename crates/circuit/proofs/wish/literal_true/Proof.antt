@@ -12,20 +12,20 @@ returns : tie.Need-returns
 unfolding keeps literalsOf
 returns c = rw (c .if1 .taken)
 
-digit-requires : tie.Need-digit-requires
-digit-requires c κs =
+switch-on-requires : tie.Need-switch-on-requires
+switch-on-requires c κs =
     let s = c .before in
     (search needs, literal-switch (s .args .code) (c .if1 .left) (s .args .a) (s .pre .1))
 
 returns-2 : tie.Need-returns-2
 unfolding switchOn
 returns-2 c =
-    rw (keeps-literal (c .before .before .before .args .code) (c .before .before .if1 .left), eq-eqb _ _ (c .if2 .taken)) (ap not (c .before .digit .ensures))
+    rw (keeps-literal (c .before .before .before .args .code) (c .before .before .if1 .left), eq-eqb _ _ (c .if2 .taken)) (ap not (c .before .switch-on .ensures))
 
 returns-3 : tie.Need-returns-3
 unfolding switchOn
 returns-3 c =
-    rw (keeps-literal (c .before .before .before .args .code) (c .before .before .if1 .left), ne-eqb _ _ (c .if2 .left)) (c .before .digit .ensures)
+    rw (keeps-literal (c .before .before .before .args .code) (c .before .before .if1 .left), ne-eqb _ _ (c .if2 .left)) (c .before .switch-on .ensures)
 
 pub literal-true-spec : {M : Type 1} → statement M
-literal-true-spec = tie.close (tie.spec returns digit-requires returns-2 returns-3)
+literal-true-spec = tie.close (tie.spec returns switch-on-requires returns-2 returns-3)

@@ -21,11 +21,11 @@ abbrev μ-loop : tie.MeasureT-loop
 loop-holds : tie.Need-loop-holds Inv-loop μ-loop
 loop-holds c = let a = c .before .args in (search needs, refl, put-none switchRow (a .out .now) (a .at) (bits (a .a) (a .plan .0)))
 
-add-digit : tie.Need-add-digit Inv-loop μ-loop
-add-digit c = search needs
+add-switch-on : tie.Need-add-switch-on Inv-loop μ-loop
+add-switch-on c = search needs
 
-digit-requires : tie.Need-digit-requires Inv-loop μ-loop
-digit-requires c κs = search needs
+switch-on-requires : tie.Need-switch-on-requires Inv-loop μ-loop
+switch-on-requires c κs = search needs
 
 flag-requires : tie.Need-flag-requires Inv-loop μ-loop
 flag-requires c κs = search needs
@@ -56,7 +56,7 @@ loop-again c =
     let s = c .before .before .before .before .before .before .before .before in
     let a = s .before .before .args in
     let i = s .loop .i in
-    let d = c .before .before .before .before .before .before .digit in
+    let d = c .before .before .before .before .before .before .switch-on in
     let f = c .before .before .before .before .before .flag in
     let o = c .before .before .put-row in
     let n : length (o .last .0) ≡ length (s .loop .out) = search needs in
@@ -79,8 +79,8 @@ put-switches-spec =
     Inv-loop
     μ-loop
     loop-holds
-    add-digit
-    digit-requires
+    add-switch-on
+    switch-on-requires
     flag-requires
     wide-requires
     mul-put-row
