@@ -41,16 +41,17 @@ module _ {A : Type 0} (f : ℕ → ℕ → ℕ → A) where
 
 -- ---- gates
 
-pub ordered-at : (n : ℕ) (gs : List Gate) (d : Gate) (i : ℕ) → Ordered n gs → i < length gs → Names (n + i) (getD gs i d)
-ordered-at n [] d i o h = absurd (omega arith)
-ordered-at n (g ∷ gs) d zero o h = rw add-zero (o .0)
-ordered-at n (g ∷ gs) d (suc i) o h = let e : suc n + i ≡ n + suc i = omega arith in subst (λ m. Names m (getD gs i d)) e (ordered-at (suc n) gs d i (o .1) (omega arith))
+-- gate i of gates in order names points before its own
+pub names-at : (n : ℕ) (gs : List Gate) (d : Gate) (i : ℕ) → Ordered n gs → i < length gs → Names (n + i) (getD gs i d)
+names-at n [] d i o h = absurd (omega arith)
+names-at n (g ∷ gs) d zero o h = rw add-zero (o .0)
+names-at n (g ∷ gs) d (suc i) o h = let e : suc n + i ≡ n + suc i = omega arith in subst (λ m. Names m (getD gs i d)) e (names-at (suc n) gs d i (o .1) (omega arith))
 
 -- a gate by its kind
 module _ (P : Gate → Type 0) (k p q : ℕ) where
-  pub by-kind : (k ≡ code "N" → P (Gate.not p)) → (k ≢ code "N" → k ≡ code "A" → P (Gate.and p q)) → (k ≢ code "N" → k ≢ code "A" → P (Gate.or p q)) → P (gateOf k p q)
+  pub gate-by-kind : (k ≡ code "N" → P (Gate.not p)) → (k ≢ code "N" → k ≡ code "A" → P (Gate.and p q)) → (k ≢ code "N" → k ≢ code "A" → P (Gate.or p q)) → P (gateOf k p q)
   unfolding gateOf
-  by-kind n a o = go (eqb k (code "N")) (eqb k (code "A")) refl refl
+  gate-by-kind n a o = go (eqb k (code "N")) (eqb k (code "A")) refl refl
     where
       go : (s t : Bool) → eqb k (code "N") ≡ s → eqb k (code "A") ≡ t → P (gateOf k p q)
       go true t e f = rw e (n (eqb-true k (code "N") e))
@@ -59,7 +60,7 @@ module _ (P : Gate → Type 0) (k p q : ℕ) where
 
 -- every gate names its first point, and all but not its second
 pub names-left : (n k p q : ℕ) → Names n (gateOf k p q) → Among n p
-names-left n k p q = by-kind (λ g. Names n g → Among n p) k p q (λ e h. h) (λ e f h. h .0) (λ e f h. h .0)
+names-left n k p q = gate-by-kind (λ g. Names n g → Among n p) k p q (λ e h. h) (λ e f h. h .0) (λ e f h. h .0)
 
 pub names-right : (n k p q : ℕ) → k ≢ code "N" → Names n (gateOf k p q) → Among n q
-names-right n k p q d = by-kind (λ g. Names n g → Among n q) k p q (λ e h. absurd (d e)) (λ e f h. h .1) (λ e f h. h .1)
+names-right n k p q d = gate-by-kind (λ g. Names n g → Among n q) k p q (λ e h. absurd (d e)) (λ e f h. h .1) (λ e f h. h .1)

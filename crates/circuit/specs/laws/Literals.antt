@@ -8,17 +8,14 @@ use lib.Dec.{eqb}
 use borrow.Author.Tests.{ne-eqb}
 use Rattle.scope.specs.Sheet.{Number, number, All, Among}
 use Rattle.scope.specs.Meaning.{any, literalTrue, keeps}
+use Rattle.scope.specs.laws.TypedSheets.{all-parts}
 use Rattle.circuit.specs.Lent.{literalsOf, clauseOf}
 
 -- ---- lists joined
-module _ {A : Type 0} where
-  any-append : (f : A → Bool) (s t : List A) → any f (s ++ t) ≡ (any f s || any f t)
-  any-append f [] t = refl
-  any-append f (a ∷ s) t = rw (any-append f s t) (sym (or-assoc (f a) (any f s) (any f t)))
 
-  all-parts : (P : A → Type 0) (s t : List A) → All P (s ++ t) → All P s × All P t
-  all-parts P [] t h = (tt, h)
-  all-parts P (a ∷ s) t h = let (p, q) = all-parts P s t (h .1) in ((h .0, p), q)
+any-append : {A : Type 0} (f : A → Bool) (s t : List A) → any f (s ++ t) ≡ (any f s || any f t)
+any-append f [] t = refl
+any-append f (a ∷ s) t = rw (any-append f s t) (sym (or-assoc (f a) (any f s) (any f t)))
 
 -- ---- a clause, by its literals
 module _ (x y z : ℕ) where

@@ -13,7 +13,7 @@ use Rattle.scope.specs.Meaning.{bits, nth, gateTruth, switchOn, truth}
 use Rattle.scope.specs.laws.Points.{truth-switch, truth-fault, truth-gate}
 use Rattle.circuit.specs.Lent.{gateOf, gatesOf, circuit, Gates}
 use Rattle.circuit.specs.Steps.{decidesOf}
-use Rattle.circuit.specs.laws.Columns.{length-rows, row-at, ordered-at, by-kind, names-left, names-right}
+use Rattle.circuit.specs.laws.Columns.{length-rows, row-at, names-at, gate-by-kind, names-left, names-right}
 
 -- ---- a gate of kind k, by the truth x of its first point and y of its second
 module _ (v : ℕ → Bool) (k p q : ℕ) where
@@ -21,18 +21,18 @@ module _ (v : ℕ → Bool) (k p q : ℕ) where
   Is z g = z ≡ gateTruth v g
 
   gate-not : (x : Bool) → k ≡ code "N" → x ≡ v p → not x ≡ gateTruth v (gateOf k p q)
-  gate-not x e h = by-kind (Is (not x)) k p q (λ n. ap not h) (λ n a. absurd (n e)) (λ n a. absurd (n e))
+  gate-not x e h = gate-by-kind (Is (not x)) k p q (λ n. ap not h) (λ n a. absurd (n e)) (λ n a. absurd (n e))
 
   gate-first : (x : Bool) → k ≢ code "N" → decidesOf k x ≡ true → x ≡ v p → x ≡ gateTruth v (gateOf k p q)
   unfolding decidesOf
-  gate-first x n d h = by-kind (Is x) k p q
+  gate-first x n d h = gate-by-kind (Is x) k p q
       (λ e. absurd (n e))
       (λ e a. rw (← h, not-true x (rw (eq-eqb k (code "A") a) at d)))
       (λ e a. rw (← h, rw (ne-eqb k (code "A") a) at d))
 
   gate-second : (x y : Bool) → k ≢ code "N" → decidesOf k x ≡ false → x ≡ v p → y ≡ v q → y ≡ gateTruth v (gateOf k p q)
   unfolding decidesOf
-  gate-second x y n d h g = by-kind (Is y) k p q
+  gate-second x y n d h g = gate-by-kind (Is y) k p q
       (λ e. absurd (n e))
       (λ e a. rw (← h, not-false x (rw (eq-eqb k (code "A") a) at d)) g)
       (λ e a. rw (← h, rw (ne-eqb k (code "A") a) at d) g)
@@ -58,7 +58,7 @@ module _ {a f : ℕ} {kind left right : List ℕ} (h : Gates a f kind left right
     names : Names (p - 1) (gate i)
     names =
         let n : a + f + i ≡ p - 1 = omega arith in
-        rw (← as-gate, ← n) (ordered-at (a + f) (gatesOf kind left right) (Gate.not 0) i (h .ordered) listed)
+        rw (← as-gate, ← n) (names-at (a + f) (gatesOf kind left right) (Gate.not 0) i (h .ordered) listed)
 
     pub left-before : Among (p - 1) (getD left i 0)
     left-before = names-left (p - 1) (getD kind i 0) (getD left i 0) (getD right i 0) names

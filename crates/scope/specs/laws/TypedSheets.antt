@@ -22,7 +22,7 @@ use Rattle.scope.specs.laws.Inverse.{all-append}
 
 -- ---- parts of lists
 
-all-parts : {A : Type 0} (P : A → Type 0) (r s : List A) → All P (r ++ s) → All P r × All P s
+pub all-parts : {A : Type 0} (P : A → Type 0) (r s : List A) → All P (r ++ s) → All P r × All P s
 all-parts P [] s h = (tt, h)
 all-parts P (x ∷ r) s (p, h) = let (g, k) = all-parts P r s h in ((p, g), k)
 

@@ -8,7 +8,7 @@ use Rattle.scope.specs.Meaning.{all, truth, passes}
 use Rattle.scope.specs.Sheet.{Among}
 use Rattle.circuit.specs.Lent.{circuit}
 use Rattle.scope.specs.laws.Steps.{all-at}
-use Rattle.circuit.specs.laws.Patterns.{all-more, all-stop, all-end}
+use Rattle.circuit.specs.laws.Patterns.{all-step, all-stop, all-end}
 use Rattle.circuit.proofs.rule.passes.Statement.{statement}
 use Rattle.circuit.proofs.rule.passes.Tie as tie
 
@@ -50,7 +50,7 @@ loop-less c = search needs
 loop-again : tie.Need-loop-again Inv-loop μ-loop
 unfolding truth
 loop-again c =
-    all-more _ _ _ (c .before .before .before .loop-test .taken) (sym (c .before .truth .ensures) ∙ not-false _ (c .if1 .left)) ∙ c .before .before .before .before .loop .inv
+    all-step _ _ _ (c .before .before .before .loop-test .taken) (sym (c .before .truth .ensures) ∙ not-false _ (c .if1 .left)) ∙ c .before .before .before .before .loop .inv
 
 returns-2 : tie.Need-returns-2 Inv-loop μ-loop
 returns-2 c = all-end _ _ _ (c .loop-test .left) ∙ c .before .loop .inv
