@@ -30,7 +30,7 @@ top = 99999
 abbrev pub Fits : Row → Type 0
 Fits r = Fit (r .fields)
 
-row-fits : (c : Char) (x y z : ℕ) → x ≤ top → y ≤ top → z ≤ top → Fits (row c x y z)
+pub row-fits : (c : Char) (x y z : ℕ) → x ≤ top → y ≤ top → z ≤ top → Fits (row c x y z)
 row-fits c x y z p q r = (plus-fits x p, (plus-fits y q, (plus-fits z r, tt)))
 
 length-each : {A : Type 0} (f : ℕ → A → Row) (i : ℕ) (s : List A) → length (each f i s) ≡ length s

@@ -1,5 +1,7 @@
+use native.Mathlib.Omega.{arith}
 use borrow.Author.Needs.{needs}
-use Rattle.listing.specs.Rows.{row-fits, row-numbers}
+use Rattle.scope.specs.laws.Outputs.{row-fits}
+use Rattle.listing.specs.Rows.{row-numbers}
 use Rattle.listing.proofs.row.put_row.Statement.{statement}
 use Rattle.listing.proofs.row.put_row.Tie as tie
 
@@ -19,7 +21,7 @@ put-line-requires : tie.Need-put-line-requires
 put-line-requires c κs =
     let s = c .before .before .before .before .before .before in
     let e = row-numbers (s .args .x) (s .args .y) (s .args .z) _ _ _ (c .before .plain4 .result) (c .before .before .before .before .plain .ensures) (c .before .before .before .plain2 .ensures) (c .before .before .plain3 .ensures) in
-    (search needs, rw e (row-fits (s .args .x) (s .args .y) (s .args .z) (s .pre .0) (s .pre .1) (s .pre .2)), search needs)
+    (search needs, rw e (row-fits "A" (s .args .x) (s .args .y) (s .args .z) (omega (arith, s .pre .0)) (omega (arith, s .pre .1)) (omega (arith, s .pre .2))), search needs)
 
 same-length : tie.Need-same-length
 same-length c = search needs

@@ -1,11 +1,10 @@
 use Prim.Native.Nat.{_≤_, _-_}
-use Prim.Native.Char.{code}
 use mathlib.Core.Path.{_≡_, refl, ap, _∙_}
 use native.Mathlib.Omega.{arith}
 use lib.ListN.{length, getD}
 use borrow.Author.Needs.{needs}
 use Rattle.scope.specs.Program.{row, patternRow}
-use Rattle.listing.specs.Rows.{row-size, Put, put-none, put-next}
+use Rattle.listing.specs.Rows.{row-size, Put, put-none, put-one-more}
 use Rattle.listing.proofs.rows.put_patterns.Statement.{statement}
 use Rattle.listing.proofs.rows.put_patterns.Tie as tie
 
@@ -57,7 +56,7 @@ loop-again c =
     let small = s .before .before .before .pre .2 i (c .before .before .before .before .before .before .loop-test .taken) in (
       omega arith,
       n ∙ s .loop .inv .1,
-      put-next patternRow (a .out .now) (a .at) (a .list .now) i (s .loop .out) (o .last .0) 0 q (row "F" (m .result) q 0) (s .loop .inv .2) (omega arith) refl (omega arith) (ap (λ k. patternRow k q) (m .ensures)) (row-size (code "F") (m .result) q 0 (omega (arith, m .ensures)) small (omega arith)) (o .ensures),
+      put-one-more patternRow (a .out .now) (a .at) (a .list .now) i (s .loop .out) (o .last .0) 0 q (row "F" (m .result) q 0) (s .loop .inv .2) (omega arith) refl (omega arith) (ap (λ k. patternRow k q) (m .ensures)) (row-size "F" (m .result) q 0 (omega (arith, m .ensures)) small (omega arith)) (o .ensures),
     )
 
 same-length : tie.Need-same-length Inv-loop μ-loop

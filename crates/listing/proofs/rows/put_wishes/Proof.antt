@@ -1,5 +1,4 @@
 use Prim.Native.Nat.{_-_, _≤_, _<_}
-use Prim.Native.Char.{code}
 use mathlib.Core.List.{[]}
 use mathlib.Core.Path.{_≡_, refl, ap₂, _∙_}
 use native.Mathlib.Omega.{arith}
@@ -9,7 +8,7 @@ use Rattle.scope.specs.Program.{row, wishRow}
 use Rattle.circuit.specs.Lent.{clauseOf, wishesOf, wishSheet}
 use Rattle.circuit.specs.laws.Columns.{length-rows, row-at}
 use Rattle.circuit.specs.laws.Wishes.{wish-at}
-use Rattle.listing.specs.Rows.{row-size, Put, put-none, put-next}
+use Rattle.listing.specs.Rows.{row-size, Put, put-none, put-one-more}
 use Rattle.listing.proofs.rows.put_wishes.Statement.{statement}
 use Rattle.listing.proofs.rows.put_wishes.Tie as tie
 
@@ -85,10 +84,10 @@ loop-again c =
     let v = clauseOf (getD (a .first .now) i 0) (getD (a .second .now) i 0) (getD (a .third .now) i 0) in (
       omega (arith, h),
       n ∙ s .loop .inv .1,
-      put-next (wishRow (wishSheet (a .a) []) (a .plan .0)) (a .out .now) (a .at) l i (s .loop .out) (o .last .0) [] v (row "W" (m .result) (f .result) 0) (s .loop .inv .2)
+      put-one-more (wishRow (wishSheet (a .a) []) (a .plan .0)) (a .out .now) (a .at) l i (s .loop .out) (o .last .0) [] v (row "W" (m .result) (f .result) 0) (s .loop .inv .2)
           (rw (length-rows clauseOf (a .first .now) (a .second .now) (a .third .now) (q .columns .seconds) (q .columns .thirds)) h) (row-at clauseOf (a .first .now) (a .second .now) (a .third .now) [] i (q .columns .seconds) (q .columns .thirds) h) (omega (arith, h, s .before .before .before .before .before .pre .1))
           (ap₂ (λ x y. row "W" x y 0) (m .ensures) (rw (k .ensures) at (f .ensures .0)))
-          (row-size (code "W") (m .result) (f .result) 0 (omega (arith, m .ensures, h, q .columns .few)) (f .ensures .1) (omega arith)) (o .ensures),
+          (row-size "W" (m .result) (f .result) 0 (omega (arith, m .ensures, h, q .columns .few)) (f .ensures .1) (omega arith)) (o .ensures),
     )
 
 same-length : tie.Need-same-length Inv-loop μ-loop

@@ -1,11 +1,10 @@
 use Prim.Native.Nat.{_+_, _*_, _<_}
-use Prim.Native.Char.{code}
 use native.Mathlib.Omega.{arith}
 use mathlib.Core.Path.{refl}
 use lib.ListN.{length}
 use Rattle.scope.specs.Program.{row, patternRow}
 use Rattle.circuit.specs.Lent.{wishesOf}
-use Rattle.listing.specs.Rows.{row-size, wrote-row, wrote-each}
+use Rattle.listing.specs.Rows.{row-size, wrote-row, put-all}
 use Rattle.listing.specs.Listing.{planRowsOf, listing-wrote}
 use borrow.Author.Needs.{needs}
 use Rattle.listing.proofs.whole.put_listing.Statement.{statement}
@@ -52,10 +51,10 @@ returns c =
     let e = m + 17 * length (a .list .now) in
     let small : n .result < 100000 = omega (arith, n .ensures, o₂ .ensures .1, s .pre .5) in
     listing-wrote (a .out .now) (o₁ .last .0) (o₂ .last .0) (o₃ .last .0) (o₄ .last .0) (a .number) (a .place) (a .figure) (planRowsOf (a .found) (a .a) (a .plan .0) ws) (a .list .now) m e (e + 17) (n .result)
-    (wrote-row (a .out .now) 0 (row "A" (a .number) (a .place) (a .figure)) (o₁ .last .0) 17 (row-size (code "A") (a .number) (a .place) (a .figure) (s .pre .2) (s .pre .3) (s .pre .4)) (o₁ .ensures) refl)
+    (wrote-row (a .out .now) 0 (row "A" (a .number) (a .place) (a .figure)) (o₁ .last .0) 17 (row-size "A" (a .number) (a .place) (a .figure) (s .pre .2) (s .pre .3) (s .pre .4)) (o₁ .ensures) refl)
     (o₂ .ensures .0)
-    (wrote-each patternRow (o₂ .last .0) m (a .list .now) (length (a .list .now)) (o₃ .last .0) e (o₃ .ensures) refl refl)
-    (wrote-row (o₃ .last .0) e (row "Z" (n .result) 0 0) (o₄ .last .0) (e + 17) (row-size (code "Z") (n .result) 0 0 small (omega arith) (omega arith)) (o₄ .ensures) refl)
+    (put-all patternRow (o₂ .last .0) m (a .list .now) (length (a .list .now)) (o₃ .last .0) e (o₃ .ensures) refl refl)
+    (wrote-row (o₃ .last .0) e (row "Z" (n .result) 0 0) (o₄ .last .0) (e + 17) (row-size "Z" (n .result) 0 0 small (omega arith) (omega arith)) (o₄ .ensures) refl)
     (n .ensures) (omega arith) (omega (arith, o₂ .ensures .1, s .pre .1, s .pre .5)) (omega (arith, o₂ .ensures .0 .end-is))
 
 pub put-listing-spec : {M : Type 1} → statement M

@@ -8,7 +8,7 @@ use Rattle.scope.specs.Program.{each, switchRow, wishRow}
 use Rattle.scope.specs.laws.Points.{length-bits}
 use Rattle.circuit.specs.Lent.{clauseOf, wishesOf, wishSheet}
 use Rattle.circuit.specs.laws.Columns.{length-rows}
-use Rattle.listing.specs.Rows.{wrote-none, wrote-each, wrote-more}
+use Rattle.listing.specs.Rows.{wrote-none, put-all, wrote-more}
 use borrow.Author.Needs.{needs}
 use Rattle.listing.proofs.whole.put_plan.Statement.{statement}
 use Rattle.listing.proofs.whole.put_plan.Tie as tie
@@ -52,8 +52,8 @@ returns c =
     let end = at + 17 * length (a .first .now) in
     rw (c .before .before .before .before .before .before .before .before .before .if1 .taken) (
       wrote-more (a .out .now) (a .at) (each switchRow 1 (bits (a .a) (a .plan .0))) (each (wishRow (wishSheet (a .a) []) (a .plan .0)) 1 ws) (o .last .0) (w .last .0) at end
-          (wrote-each switchRow (a .out .now) (a .at) (bits (a .a) (a .plan .0)) (a .a) (o .last .0) at (o .ensures) (sym (length-bits (a .a) (a .plan .0))) (rw m))
-          (wrote-each (wishRow (wishSheet (a .a) []) (a .plan .0)) (o .last .0) at ws (length (a .first .now)) (w .last .0) end (w .ensures) k refl)
+          (put-all switchRow (a .out .now) (a .at) (bits (a .a) (a .plan .0)) (a .a) (o .last .0) at (o .ensures) (sym (length-bits (a .a) (a .plan .0))) (rw m))
+          (put-all (wishRow (wishSheet (a .a) []) (a .plan .0)) (o .last .0) at ws (length (a .first .now)) (w .last .0) end (w .ensures) k refl)
           (omega (arith, m, q .switches, s .pre .2)),
       omega (arith, m, n, q .switches),
     )
