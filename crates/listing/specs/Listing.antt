@@ -18,7 +18,7 @@ planRowsOf found a plan ws = cond found (each switchRow 1 (bits a plan) ++ each 
 abbrev pub listingRows : (number place figure : ℕ) → List Row → List ℕ → List Row
 listingRows number place figure rows list = ended (row "A" number place figure ∷ rows ++ each patternRow 1 list)
 
--- four parts, one after another: A, the plan's rows, the patterns, Z
+-- four parts, one after another: A, the plan's rows, the patterns, Z; a row has 17 bytes, so Z stands after e / 17 rows
 pub listing-wrote : (out o₁ o₂ o₃ now : List ℕ) (number place figure : ℕ) (rows : List Row) (list : List ℕ) (m e end lines : ℕ)
     → Wrote out 0 (row "A" number place figure ∷ []) o₁ 17 → Wrote o₁ 17 rows o₂ m → Wrote o₂ m (each patternRow 1 list) o₃ e → Wrote o₃ e (row "Z" lines 0 0 ∷ []) now end
     → lines ≡ e / 17 → m ≤ e → e + 17 ≤ length out → 17 ≤ m → Wrote out 0 (listingRows number place figure rows list) now end

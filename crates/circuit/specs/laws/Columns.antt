@@ -47,7 +47,7 @@ names-at n [] d i o h = absurd (omega arith)
 names-at n (g ∷ gs) d zero o h = rw add-zero (o .0)
 names-at n (g ∷ gs) d (suc i) o h = let e : suc n + i ≡ n + suc i = omega arith in subst (λ m. Names m (getD gs i d)) e (names-at (suc n) gs d i (o .1) (omega arith))
 
--- a gate by its kind
+-- what holds of each kind holds of a gate: its letter is tested for N, and then for A
 module _ (P : Gate → Type 0) (k p q : ℕ) where
   pub gate-by-kind : (k ≡ code "N" → P (Gate.not p)) → (k ≢ code "N" → k ≡ code "A" → P (Gate.and p q)) → (k ≢ code "N" → k ≢ code "A" → P (Gate.or p q)) → P (gateOf k p q)
   unfolding gateOf

@@ -15,7 +15,8 @@ use Rattle.circuit.specs.Lent.{gateOf, gatesOf, circuit, Gates}
 use Rattle.circuit.specs.Steps.{decidesOf}
 use Rattle.circuit.specs.laws.Columns.{length-rows, row-at, names-at, gate-by-kind, names-left, names-right}
 
--- ---- a gate of kind k, by the truth x of its first point and y of its second
+-- ---- a gate of kind k, by the truth x of its first point and y of its second: an and with a false first point is false, and an or with a
+-- true one true; otherwise both are what the second point is
 module _ (v : ℕ → Bool) (k p q : ℕ) where
   abbrev Is : Bool → Gate → Type 0
   Is z g = z ≡ gateTruth v g
@@ -83,7 +84,7 @@ module _ {a f : ℕ} {kind left right : List ℕ} (h : Gates a f kind left right
         let e : a + (p - a) ≡ p = omega arith in
         sym (ap at (sym e) ∙ truth-fault t plan pattern (p - a) (omega arith, omega arith))
 
-    -- ---- a gate is what its points make it
+    -- ---- a gate is what its points make it: the gate in row i is point a + f + i + 1 of the sheet
     module _ {p i : ℕ} (g : IsGate a f (length kind) p i) where
       at-gate : gateTruth at (gate i) ≡ at p
       at-gate =

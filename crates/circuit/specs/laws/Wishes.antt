@@ -27,6 +27,7 @@ module _ {n : ℕ} {first second third : List ℕ} (h : Columns n first second t
     abbrev from : ℕ → ℕ
     from j = cost (wishSheet a (drop j ws)) plan
 
+    -- wish i and those after it cost together what they cost apart
     cost-next : i < length first → from i ≡ cond (kept (wishSheet a []) plan (wish i)) 0 1 + from (i + 1)
     cost-next l =
         rw (row-drop clauseOf first second third i (h .seconds) (h .thirds) l) (cost-together a 0 [] [] plan (wish i ∷ []) (drop (i + 1) ws)

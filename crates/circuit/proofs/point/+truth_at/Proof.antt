@@ -1,3 +1,5 @@
+-- A point up to a is a digit of the plan, and one up to a + f a digit of the pattern. A later one is a gate, and names points before
+-- its own: so the point's number falls, and the gate is what its kind makes of the truth of one point or of two.
 use Prim.Native.Nat.{ℕ, _<_}
 use mathlib.Core.Path.{sym, _∙_}
 use native.Mathlib.Omega.{arith}

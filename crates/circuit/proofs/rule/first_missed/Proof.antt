@@ -1,3 +1,4 @@
+-- The invariant: all patterns below i are passed. So the first that is not passed is the smallest, and at the end there is none.
 use Prim.Native.Nat.{ℕ, _-_, _<_}
 use native.Mathlib.Omega.{arith}
 use mathlib.Core.Bool.{true}

@@ -1,3 +1,4 @@
+-- The invariant: whether the rules from i on are all true is whether all are. A true rule leaves that as it is; a false one settles it.
 use Prim.Native.Nat.{_+_, _-_}
 use mathlib.Core.Path.{_≡_, refl, sym, _∙_}
 use lib.ListN.{length, drop}

@@ -1,3 +1,4 @@
+-- The invariant: the count and what the wishes from i on cost are together what all cost. A broken wish costs 1 and a kept one 0.
 use Prim.Native.Nat.{_+_, _-_, _≤_}
 use native.Mathlib.Omega.{arith}
 use mathlib.Core.Logic.{⊎-elim}

@@ -1,3 +1,4 @@
+-- The literals of a clause are those of its three codes, so it is kept when one of the three has a true one, asked for in order.
 use mathlib.Core.Path.{sym, _∙_}
 use Rattle.scope.specs.Sheet.{Among}
 use Rattle.scope.specs.Meaning.{kept}

@@ -1,3 +1,4 @@
+-- Code 0 has no literal, so none is true. Every other code has one: its lowest digit is the minus, and the rest the switch.
 use mathlib.Core.Bool.{not}
 use mathlib.Core.Path.{ap}
 use borrow.Author.Tests.{eq-eqb, ne-eqb}

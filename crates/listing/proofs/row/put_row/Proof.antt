@@ -1,3 +1,5 @@
+-- `put_line` puts the numbers that the code holds: they are the row's (`row-numbers`), and they fit. That they fit says nothing of the
+-- letter, so it is asked for a row with any.
 use native.Mathlib.Omega.{arith}
 use borrow.Author.Needs.{needs}
 use Rattle.scope.specs.laws.Outputs.{row-fits}

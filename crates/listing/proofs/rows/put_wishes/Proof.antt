@@ -1,3 +1,4 @@
+-- The invariant: the rows of the first i wishes are put, in a buffer of the same length. The next is put where they end, with number i + 1.
 use Prim.Native.Nat.{_-_, _≤_, _<_}
 use mathlib.Core.List.{[]}
 use mathlib.Core.Path.{_≡_, refl, ap₂, _∙_}

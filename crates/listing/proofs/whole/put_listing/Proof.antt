@@ -1,3 +1,4 @@
+-- Each of the four calls puts its part of the listing where the one before it ended, and `listing-wrote` joins the parts.
 use Prim.Native.Nat.{_+_, _*_, _<_}
 use native.Mathlib.Omega.{arith}
 use mathlib.Core.Path.{refl}

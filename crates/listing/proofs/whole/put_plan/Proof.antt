@@ -1,3 +1,4 @@
+-- With a plan, the rows of the wishes are put where those of the switches end (`wrote-more`); without one nothing is put.
 use Prim.Native.Nat.{_+_, _*_, _≤_}
 use native.Mathlib.Omega.{arith}
 use mathlib.Core.List.{[]}
