@@ -1,5 +1,5 @@
 -- What the steps over words and numbers give: in no promise of an exported call. Assumes nothing.
-use Prim.Native.Nat.{ℕ, _+_, _-_, _≤_, _<_}
+use Prim.Native.Nat.{ℕ, _-_, _≤_, _<_}
 use mathlib.Core.Bool.{Bool, true, false}
 use mathlib.Core.List.{List, [], _∷_}
 use mathlib.Core.Path.{_≡_}
@@ -23,12 +23,6 @@ pub record Came (s : List ℕ) (st : State) (at : ℕ) (to : State) (n : ℕ) : 
 abbrev pub rest : List ℕ → State → State
 rest [] st = st
 rest (c ∷ s) st = word (c ∷ s) st
-
--- the first i bytes of w stand from `at` on
-pub record Partly (s w : List ℕ) (at i : ℕ) : Type 0 where
-  pub part : i ≤ length w
-  pub within : at + i ≤ length s
-  pub walk : (st : State) → walk (word w st) (drop at s) ≡ walk (rest (drop i w) st) (drop (at + i) s)
 
 -- the bytes w from `at` on
 pub record WordRead (s w : List ℕ) (at : ℕ) (r : Word) : Type 0 where

@@ -1,5 +1,7 @@
-// The reader of typed texts. The borrow checker covers no function over a struct that holds a slice, so each is proved by
-// hand, and is thin: the work is in `byte_at`, which takes a plain slice, and `look` is the one function that callers use.
+// The reader of typed texts: it stands at a place, and moves on past what is asked for there. The borrow checker covers no
+// function over a struct that holds a slice, so each is proved by hand, and is thin: the work is in `byte_at`, `same_byte` and
+// `same_bytes`, which take plain slices, and callers use `look`, `past_byte`, `past_word` and `skip`, which take them too.
+ghost use mathlib.Core.List.{[], _∷_};
 ghost use mathlib.Core.Path.{_≡_};
 ghost use Rattle.text.specs.Look as specs;
 
@@ -12,9 +14,15 @@ pub struct Reader<'a> {
 // no byte
 pub const END: u32 = 256;
 
-const SPACE: u32 = b' ' as u32;
+const SPACE: u8 = b' ';
 
-// The work: what stands at a place of a text.
+fn wide(b: u8) -> u32
+    ensures { λ r. ⌜ r ≡ b ⌝ }
+{
+    b as u32
+}
+
+// What stands at a place of a text.
 fn byte_at(text: &[u8], at: usize) -> u32
     ensures { λ r. ⌜ r ≡ specs.look (now (text .entry)) at ⌝ }
 {
@@ -25,28 +33,84 @@ fn byte_at(text: &[u8], at: usize) -> u32
     }
 }
 
-fn new<'a>(text: &'a [u8], at: usize) -> Reader<'a>
+// 1 if a byte stands there, else 0.
+fn same_byte(text: &[u8], at: usize, b: u8) -> usize
+    ensures { λ r. ⌜ r ≡ specs.standing (now (text .entry)) at (b ∷ []) ⌝ }
+{
+    if byte_at(text, at) == wide(b) { 1 } else { 0 }
+}
+
+// How many bytes of a word stand from there on.
+fn same_bytes(text: &[u8], at: usize, word: &[u8]) -> usize
+    ensures { λ r. ⌜ r ≡ specs.standing (now (text .entry)) at (now (word .entry)) ⌝ }
+{
+    let mut i = 0;
+    while i < word.len() {
+        if byte_at(text, at + i) != wide(word[i]) {
+            return i;
+        }
+        i += 1;
+    }
+    i
+}
+
+pub fn new<'a>(text: &'a [u8], at: usize) -> Reader<'a>
     ensures { λ r. ⌜ (r .text ≡ text .entry) × (r .at ≡ at) ⌝ }
 {
     Reader { text, at }
 }
 
+// What stands where the reader is.
 fn next<'a>(r: Reader<'a>) -> u32
     ensures { λ b. ⌜ b ≡ specs.look (now (r .entry .text)) (r .entry .at) ⌝ }
 {
     byte_at(r.text, r.at)
 }
 
-// What stands at a place of a text. A caller's parameters are a plain slice and a number, so it is covered.
+// Past a byte, if it stands here.
+fn pass_byte<'a>(r: Reader<'a>, b: u8) -> Reader<'a>
+    ensures { λ q. ⌜ (q .text ≡ r .entry .text) × (q .at ≡ specs.past (now (r .entry .text)) (r .entry .at) (b ∷ [])) ⌝ }
+{
+    Reader {
+        text: r.text,
+        at: r.at + same_byte(r.text, r.at, b),
+    }
+}
+
+// Past as much of a word as stands here.
+fn pass_word<'a, 'w>(r: Reader<'a>, word: &'w [u8]) -> Reader<'a>
+    ensures { λ q. ⌜ (q .text ≡ r .entry .text) × (q .at ≡ specs.past (now (r .entry .text)) (r .entry .at) (now (word .entry))) ⌝ }
+{
+    Reader {
+        text: r.text,
+        at: r.at + same_bytes(r.text, r.at, word),
+    }
+}
+
+// What stands at a place of a text. The parameters are a plain slice and a number, here and below, so callers are covered.
 pub fn look(text: &[u8], at: usize) -> u32
     ensures { λ r. ⌜ r ≡ specs.look (now (text .entry)) at ⌝ }
 {
     next(new(text, at))
 }
 
-// The next significant place. What is no end stands in the text, so one more place is a number.
+// The place that a reader comes to from there, past a byte.
+pub fn past_byte(text: &[u8], at: usize, b: u8) -> usize
+    ensures { λ r. ⌜ r ≡ specs.past (now (text .entry)) at (b ∷ []) ⌝ }
+{
+    pass_byte(new(text, at), b).at
+}
+
+// Or past as much of a word as stands there.
+pub fn past_word(text: &[u8], at: usize, word: &[u8]) -> usize
+    ensures { λ r. ⌜ r ≡ specs.past (now (text .entry)) at (now (word .entry)) ⌝ }
+{
+    pass_word(new(text, at), word).at
+}
+
+// The next significant place.
 pub fn skip(text: &[u8], at: usize) -> usize
     ensures { λ r. ⌜ r ≡ specs.skip (now (text .entry)) at ⌝ }
 {
-    if look(text, at) == SPACE { at + 1 } else { at }
+    past_byte(text, at, SPACE)
 }

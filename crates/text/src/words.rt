@@ -5,6 +5,7 @@ ghost use Prim.Native.Nat.{_≤_, _<_};
 ghost use lib.ListN.{length};
 ghost use Rattle.text.specs.Words.{WordRead, NumberRead, NamedRead};
 use crate::reader::look;
+use crate::reader::past_word;
 
 const ZERO: u32 = b'0' as u32;
 
@@ -15,12 +16,6 @@ pub struct Word {
     pub bad: bool,
     pub at: usize,
     pub value: u32,
-}
-
-fn wide(b: u8) -> u32
-    ensures { λ r. ⌜ r ≡ b ⌝ }
-{
-    b as u32
 }
 
 fn stuck(at: usize) -> Word
@@ -38,16 +33,13 @@ pub fn word_at(s: &[u8], at: usize, word: &[u8]) -> Word
     requires { ⌜ (at ≤ length (now s)) × (0 < length (now word)) ⌝ }
     ensures { λ r. ⌜ WordRead (now (s .entry)) (now (word .entry)) at r ⌝ }
 {
-    let mut i = 0;
-    while i < word.len() {
-        if look(s, at + i) != wide(word[i]) {
-            return stuck(at + i);
-        }
-        i += 1;
+    let end = past_word(s, at, word);
+    if end - at < word.len() {
+        return stuck(end);
     }
     Word {
         bad: false,
-        at: at + i,
+        at: end,
         value: 0,
     }
 }

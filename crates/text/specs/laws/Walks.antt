@@ -3,14 +3,17 @@ use Prim.Native.Nat.{ℕ, suc, _+_, _-_, _≤_, _<_}
 use native.Mathlib.Decide.{decLe}
 use native.Mathlib.Numerals.{add-one}
 use native.Mathlib.Omega.{arith}
-use mathlib.Core.List.{List}
+use mathlib.Core.Bool.{Bool, true, false, cond}
+use mathlib.Core.List.{List, [], _∷_}
+use mathlib.Core.Logic.{_≢_}
 use mathlib.Core.Option.{none, some}
-use mathlib.Core.Path.{_≡_, sym, ap, _∙_}
+use mathlib.Core.Path.{_≡_, refl, sym, ap, _∙_}
 use lib.ListN.{length, getD, drop, length-drop, drop-of-length-le}
 use lib.Seq.{drop-cons}
-use borrow.Author.Tests.{lt-ltb, le-ltb}
+use lib.Dec.{eqb}
+use borrow.Author.Tests.{lt-ltb, le-ltb, eq-eqb, ne-eqb, eqb-true, eqb-false}
 use Rattle.scope.specs.Parsing.{State, stuck, step, atEnd, goOn, walk}
-use Rattle.text.specs.Look.{end, look}
+use Rattle.text.specs.Look.{end, look, shared, standing, past}
 use Rattle.text.specs.Words.{Stuck, Came}
 
 -- ---- what stands at a place
@@ -30,6 +33,68 @@ stands s i h = go (decLe (length s) i)
     go : Dec (length s ≤ i) → i < length s
     go (yes p) = absurd (omega (arith, look-end s i p))
     go (no p) = omega arith
+
+-- ---- how much of a word stands from a place on
+
+-- where the two lists go on alike one more byte of each is passed, so no more are counted than the first has
+pub shared-within : (s w : List ℕ) → shared s w ≤ length s
+unfolding shared
+shared-within s [] = omega arith
+shared-within [] (c ∷ w) = omega arith
+shared-within (b ∷ s) (c ∷ w) = go (eqb b c) (shared-within s w)
+  where
+    go : (t : Bool) → shared s w ≤ length s → cond t (suc (shared s w)) 0 ≤ suc (length s)
+    go true h = omega arith
+    go false h = omega arith
+
+standing-within : (s : List ℕ) (i : ℕ) (w : List ℕ) → standing s i w ≤ length s - i
+unfolding standing
+standing-within s i w = omega (arith, shared-within (drop i s) w, length-drop i s)
+
+pub past-within : (s : List ℕ) (i : ℕ) (w : List ℕ) → i ≤ length s → past s i w ≤ length s
+past-within s i w h = omega (arith, standing-within s i w)
+
+-- the place past a word is a number where the place before it and the length are
+pub past-fits : (n : ℕ) (s : List ℕ) (i : ℕ) (w : List ℕ) → i < n → length s < n → past s i w < n
+past-fits n s i w h l = omega (arith, standing-within s i w)
+
+module _ (s : List ℕ) (i c : ℕ) where
+  pub standing-more : (w : List ℕ) → c < end → look s i ≡ c → standing s i (c ∷ w) ≡ suc (standing s (i + 1) w)
+  unfolding standing shared
+  standing-more w b e =
+      let h : i < length s = stands s i (omega arith) in
+      rw (drop-cons s i 0 h, eq-eqb (getD s i 0) c (sym (look-byte s i h) ∙ e), add-one i)
+
+  pub standing-none : (w : List ℕ) → look s i ≢ c → standing s i (c ∷ w) ≡ 0
+  unfolding standing shared
+  standing-none w e = go (decLe (length s) i)
+    where
+      go : Dec (length s ≤ i) → shared (drop i s) (c ∷ w) ≡ 0
+      go (yes p) = rw (drop-of-length-le s {i = i} p)
+      go (no p) = let h : i < length s = omega arith in rw (drop-cons s i 0 h, ne-eqb (getD s i 0) c (λ f. e (look-byte s i h ∙ f)))
+
+  -- past one byte
+  pub past-byte : c < end → past s i (c ∷ []) ≡ cond (eqb (look s i) c) (i + 1) i
+  unfolding standing shared
+  past-byte b = go (eqb (look s i) c) refl
+    where
+      go : (t : Bool) → eqb (look s i) c ≡ t → i + standing s i (c ∷ []) ≡ cond t (i + 1) i
+      go true e = omega (arith, standing-more [] b (eqb-true (look s i) c e))
+      go false e = omega (arith, standing-none [] (eqb-false (look s i) c e))
+
+-- how a count goes on over the rest of a word
+module _ (s w : List ℕ) (at i : ℕ) where
+  pub standing-on : i < length w → getD w i 0 < end → look s (at + i) ≡ getD w i 0 → standing s (at + i) (drop i w) ≡ suc (standing s (at + (i + 1)) (drop (i + 1) w))
+  standing-on h b e =
+      let n : at + (i + 1) ≡ at + i + 1 = omega arith in
+      rw (drop-cons w i 0 h, n, add-one i) (standing-more s (at + i) (getD w i 0) (drop (suc i) w) b e)
+
+  pub standing-off : i < length w → look s (at + i) ≢ getD w i 0 → standing s (at + i) (drop i w) ≡ 0
+  standing-off h e = rw (drop-cons w i 0 h) (standing-none s (at + i) (getD w i 0) (drop (suc i) w) e)
+
+  pub standing-end : length w ≤ i → standing s (at + i) (drop i w) ≡ 0
+  unfolding standing shared
+  standing-end h = rw (drop-of-length-le w {i = i} h)
 
 -- ---- one byte
 

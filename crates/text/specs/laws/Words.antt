@@ -1,74 +1,84 @@
 -- How a walk goes on over words and numbers. Assumes nothing.
 use Prim.Native.Nat.{ℕ, suc, _+_, _-_, _*_, _≤_, _<_}
 use Prim.Native.Char.{code}
-use native.Mathlib.Nat.{add-zero}
-use native.Mathlib.Numerals.{add-one}
 use native.Mathlib.Omega.{arith}
-use mathlib.Core.Bool.{Bool, true, false}
+use mathlib.Core.Bool.{Bool, true, false, cond}
 use mathlib.Core.List.{List, [], _∷_}
 use mathlib.Core.Logic.{_≢_, _⊎_, inl, inr}
 use mathlib.Core.Option.{none, some}
 use mathlib.Core.Path.{_≡_, refl, _∙_}
-use lib.ListN.{length, getD, drop, drop-of-length-le}
-use lib.Seq.{drop-cons}
-use borrow.Author.Tests.{eq-eqb, ne-eqb, le-leb, lt-leb}
-use Rattle.scope.specs.Parsing.{Slot, State, word, digits, second, numberDone, zeroOk, isDigit, move, step, atEnd, walk}
-use Rattle.scope.specs.Parsing as parsing
+use lib.Dec.{eqb}
+use lib.ListN.{length, drop, length-drop}
+use lib.Seq.{drop-drop}
+use borrow.Author.Tests.{ne-eqb, le-leb, lt-leb}
+use Rattle.scope.specs.Parsing.{Slot, State, stuck, word, digits, second, numberDone, zeroOk, isDigit, move, step, atEnd, walk}
 use Rattle.scope.specs.laws.Tests.{clash}
 use Rattle.scope.specs.laws.Walked.{number-plain}
-use Rattle.text.specs.Look.{end, look}
-use Rattle.text.specs.Words.{Stuck, Came, rest, Partly, WordRead, NumberRead, NamedRead}
+use Rattle.text.specs.Look.{look, shared, standing, past}
+use Rattle.text.specs.Words.{Came, rest, WordRead, NumberRead, NamedRead}
 use Rattle.text.specs.declared.words.Word.{Word}
-use Rattle.text.specs.laws.Walks.{stands, came, stops, came-came, came-stuck, alike}
+use Rattle.text.specs.laws.Walks.{stands, past-within, came, stops, came-came, came-stuck, alike}
 
 -- ---- the bytes of a word
 
-module _ (s w : List ℕ) (at : ℕ) where
-  pub word-start : at ≤ length s → 0 < length w → Partly s w at 0
-  word-start h n = record { part = omega arith; within = omega arith; walk = λ st. go w n st }
-    where
-      go : (w : List ℕ) → 0 < length w → (st : State) → walk (word w st) (drop at s) ≡ walk (rest (drop 0 w) st) (drop (at + 0) s)
-      go [] n st = absurd (omega arith)
-      go (c ∷ w) n st = rw add-zero
+-- the byte that is asked for
+word-step : (c : ℕ) (w : List ℕ) (st : State) (b : ℕ) → eqb b c ≡ true → step (word (c ∷ w) st) b ≡ some (rest w st)
+unfolding step move
+word-step c [] st b e = rw e
+word-step c (d ∷ w) st b e = rw e
 
-  module _ (i : ℕ) (h : Partly s w at i) where
-    -- the byte that is asked for
-    pub word-more : i < length w → getD w i 0 < end → look s (at + i) ≡ getD w i 0 → Partly s w at (i + 1)
-    unfolding step move
-    word-more more b e = record {
-      part = omega arith;
-      within = omega (arith, stands s (at + i) (omega arith));
-      walk = λ st. h .walk st ∙ onward st;
-    }
-      where
-        go : (v : List ℕ) (st : State) → step (word (getD w i 0 ∷ v) st) (look s (at + i)) ≡ some (rest v st)
-        go [] st = rw (eq-eqb (look s (at + i)) (getD w i 0) e)
-        go (d ∷ v) st = rw (eq-eqb (look s (at + i)) (getD w i 0) e)
+-- another byte
+word-stops : (c : ℕ) (w : List ℕ) (st : State) (b : ℕ) → eqb b c ≡ false → step (word (c ∷ w) st) b ≡ none
+unfolding step move
+word-stops c [] st b e = rw e
+word-stops c (d ∷ w) st b e = rw e
 
-        onward : (st : State) → walk (rest (drop i w) st) (drop (at + i) s) ≡ walk (rest (drop (i + 1) w) st) (drop (at + (i + 1)) s)
-        onward st =
-            let n : at + i + 1 ≡ at + (i + 1) = omega arith in
-            let m : drop (i + 1) w ≡ drop (suc i) w = rw add-one in
-            rw (drop-cons w i 0 more, m, ← n) (came s (word (getD w i 0 ∷ drop (suc i) w) st) (rest (drop (suc i) w) st) (at + i) (stands s (at + i) (omega arith)) (go (drop (suc i) w) st) .walk)
+-- where the whole word stands, each of its bytes is the one asked for
+passes : (st : State) (t w : List ℕ) → length w ≤ shared t w → walk (rest w st) t ≡ walk st (drop (shared t w) t)
+unfolding walk shared
+passes st t [] h = refl
+passes st [] (c ∷ w) h = absurd (omega arith)
+passes st (b ∷ t) (c ∷ w) h = go (eqb b c) refl h (passes st t w)
+  where
+    go : (x : Bool) → eqb b c ≡ x → suc (length w) ≤ cond x (suc (shared t w)) 0 → (length w ≤ shared t w → walk (rest w st) t ≡ walk st (drop (shared t w) t)) → walk (word (c ∷ w) st) (b ∷ t) ≡ walk st (drop (cond x (suc (shared t w)) 0) (b ∷ t))
+    go true e l more = rw (word-step c w st b e) (more (omega arith))
+    go false e l more = absurd (omega arith)
 
-    -- and another
-    pub word-halts : (r : Word) → i < length w → look s (at + i) ≢ getD w i 0 → r ≡ record { bad = true; at = at + i; value = 0 } → WordRead s w at r
-    unfolding step move atEnd
-    word-halts r more e q = rw q record { good = λ t. clash refl t; bad = λ t st. record { within = h .within; walk = h .walk st ∙ halts st .walk } }
-      where
-        go : (v : List ℕ) (st : State) → step (word (getD w i 0 ∷ v) st) (look s (at + i)) ≡ none
-        go [] st = rw (ne-eqb (look s (at + i)) (getD w i 0) e)
-        go (d ∷ v) st = rw (ne-eqb (look s (at + i)) (getD w i 0) e)
+-- where only a part of it stands, the byte after that part is another, or none
+halts : (st : State) (t w : List ℕ) → shared t w < length w → walk (rest w st) t ≡ stuck (length t - shared t w)
+unfolding walk shared atEnd
+halts st t [] h = absurd (omega arith)
+halts st [] (c ∷ w) h = refl
+halts st (b ∷ t) (c ∷ w) h = go (eqb b c) refl h (halts st t w)
+  where
+    go : (x : Bool) → eqb b c ≡ x → cond x (suc (shared t w)) 0 < suc (length w) → (shared t w < length w → walk (rest w st) t ≡ stuck (length t - shared t w)) → walk (word (c ∷ w) st) (b ∷ t) ≡ stuck (suc (length t) - cond x (suc (shared t w)) 0)
+    go true e l more = let n : suc (length t) - suc (shared t w) ≡ length t - shared t w = omega arith in rw (word-step c w st b e, n) (more (omega arith))
+    go false e l more = let n : suc (length t) - 0 ≡ suc (length t) = omega arith in rw (word-stops c w st b e, n)
 
-        halts : (st : State) → Stuck s (rest (drop i w) st) (at + i) (at + i)
-        halts st = rw (drop-cons w i 0 more) (stops s (word (getD w i 0 ∷ drop (suc i) w) st) (at + i) (h .within) (go (drop (suc i) w) st) refl)
+-- what is left of a word that has a byte is the word
+rest-whole : (w : List ℕ) (st : State) → 0 < length w → rest w st ≡ word w st
+rest-whole [] st h = absurd (omega arith)
+rest-whole (c ∷ w) st h = refl
 
-    -- the whole word
-    pub word-ends : (r : Word) → 0 < length w → length w ≤ i → r ≡ record { bad = false; at = at + i; value = 0 } → WordRead s w at r
-    word-ends r long all q = rw q record {
-      good = λ t st. record { ahead = omega (arith, h .part); within = h .within; walk = h .walk st ∙ rw (drop-of-length-le w {i = i} all) };
-      bad = λ t. clash t refl;
-    }
+module _ (s w : List ℕ) (at : ℕ) (within : at ≤ length s) (long : 0 < length w) (r : Word) where
+  pub word-good : length w ≤ standing s at w → r ≡ record { bad = false; at = past s at w; value = 0 } → WordRead s w at r
+  unfolding standing
+  word-good all q = rw q record {
+    good = λ t st. record { ahead = omega arith; within = past-within s at w within; walk = rw (← rest-whole w st long, ← drop-drop (standing s at w) at s) (passes st (drop at s) w all) };
+    bad = λ t. clash t refl;
+  }
+
+  pub word-bad : standing s at w < length w → r ≡ record { bad = true; at = past s at w; value = 0 } → WordRead s w at r
+  unfolding standing
+  word-bad part q = rw q record {
+    good = λ t. clash refl t;
+    bad = λ t st. record {
+      within = past-within s at w within;
+      walk =
+          let n : length s - past s at w ≡ length (drop at s) - standing s at w = omega (arith, length-drop at s) in
+          rw (← rest-whole w st long, n) (halts st (drop at s) w part);
+    };
+  }
 
 -- ---- numbers
 
