@@ -7,6 +7,7 @@ ghost use Rattle.scope.specs.Typed.{mostText, mostNumber};
 ghost use Rattle.text.specs.Look as place;
 ghost use Rattle.text.specs.Formulas.{Asked, AtomRead, FactorRead, AndsRead, OrsRead, Ends, Gated, OrGated, notSign, openSign, andSign, orSign, goesOn, operandAt, badAt, closedOf, fedOf};
 use crate::reader::look;
+use crate::reader::past_byte;
 use crate::reader::skip;
 use crate::words::number_at;
 use sheet::both;
@@ -27,9 +28,9 @@ const BAR: u32 = b'|' as u32;
 
 const OPEN: u32 = b'(' as u32;
 
-const CLOSE: u32 = b')' as u32;
+const CLOSE: u8 = b')';
 
-const FEED: u32 = b'\n' as u32;
+const FEED: u8 = b'\n';
 
 // What was read of a formula; or, if it is bad, the place where no legal text goes on.
 pub struct Parsed {
@@ -169,17 +170,18 @@ fn closed(s: &[u8], p: Parsed) -> Parsed
         return same(p);
     }
     let at = p.at;
-    let end = skip(s, at);
-    if look(s, end) == CLOSE {
+    let last = skip(s, at);
+    let end = past_byte(s, last, CLOSE);
+    if last < end {
         return Parsed {
             bad: p.bad,
-            at: end + 1,
+            at: end,
             point: p.point,
             gates: p.gates,
             known: p.known,
         };
     }
-    stuck(end)
+    stuck(last)
 }
 
 // The line feed after a formula, before which no space may stand.
@@ -190,10 +192,11 @@ pub fn fed(s: &[u8], p: Parsed) -> Parsed
         return same(p);
     }
     let at = p.at;
-    if look(s, at) == FEED {
+    let end = past_byte(s, at, FEED);
+    if at < end {
         return Parsed {
             bad: p.bad,
-            at: at + 1,
+            at: end,
             point: p.point,
             gates: p.gates,
             known: p.known,

@@ -16,6 +16,7 @@ use crate::lines::first_of;
 use crate::lines::goes_on;
 use crate::lines::stuck;
 use crate::reader::look;
+use crate::reader::past_byte;
 use crate::words::named_at;
 use crate::words::word_at;
 use sheet::both;
@@ -29,7 +30,7 @@ use sheet::tables::MOST_WISHES;
 
 const WISH: u32 = b'w' as u32;
 
-const BANG: u32 = b'!' as u32;
+const BANG: u8 = b'!';
 
 const SPACE: u32 = b' ' as u32;
 
@@ -114,10 +115,8 @@ fn add_literal(s: &[u8], at: usize, switches: u32, w: Wish) -> Wish
     requires { ⌜ (at ≤ length (now s)) × (w .count < mostLiterals) ⌝ }
     ensures { λ r. ⌜ LiteralRead oneLiteral (now (s .entry)) switches at w r ⌝ }
 {
-    if look(s, at) == BANG {
-        return named_literal(s, at + 1, true, switches, w);
-    }
-    named_literal(s, at, false, switches, w)
+    let name = past_byte(s, at, BANG);
+    named_literal(s, name, at < name, switches, w)
 }
 
 // Whether one more literal comes next.

@@ -82,6 +82,18 @@ module _ (s : List ℕ) (i c : ℕ) where
       go true e = omega (arith, standing-more [] b (eqb-true (look s i) c e))
       go false e = omega (arith, standing-none [] (eqb-false (look s i) c e))
 
+  -- where the place has moved, the byte was there
+  pub past-moved : c < end → i < past s i (c ∷ []) → (look s i ≡ c) × (past s i (c ∷ []) ≡ i + 1)
+  past-moved b h = go (eqb (look s i) c) refl (past-byte b)
+    where
+      go : (t : Bool) → eqb (look s i) c ≡ t → past s i (c ∷ []) ≡ cond t (i + 1) i → (look s i ≡ c) × (past s i (c ∷ []) ≡ i + 1)
+      go true e p = (eqb-true (look s i) c e, p)
+      go false e p = absurd (omega arith)
+
+  -- and where it has not, it was not
+  pub past-stayed : c < end → past s i (c ∷ []) ≤ i → look s i ≢ c
+  past-stayed b h e = omega (arith, standing-more [] b e)
+
 -- how a count goes on over the rest of a word
 module _ (s w : List ℕ) (at i : ℕ) where
   pub standing-on : i < length w → getD w i 0 < end → look s (at + i) ≡ getD w i 0 → standing s (at + i) (drop i w) ≡ suc (standing s (at + (i + 1)) (drop (i + 1) w))

@@ -2,6 +2,7 @@
 use Prim.Native.Nat.{ℕ, suc, _+_, _-_, _≤_, _<_}
 use Prim.Native.Char.{code}
 use native.Mathlib.Nat.{add-zero, zero-add}
+use native.Mathlib.Decide.{decLe}
 use native.Mathlib.Omega.{arith}
 use mathlib.Core.Bool.{Bool, true, false, cond, not, _&&_, and-assoc, and-true}
 use mathlib.Core.List.{List, [], _∷_, _++_, append-assoc}
@@ -10,7 +11,7 @@ use mathlib.Core.Option.{none}
 use mathlib.Core.Path.{_≡_, refl, sym, ap, subst, _∙_}
 use lib.Dec.{eqb, leb, ltb}
 use lib.ListN.{length, drop}
-use borrow.Author.Tests.{ltb-true, eqb-true, not-true, lt-ltb, ne-eqb}
+use borrow.Author.Tests.{ltb-true, eqb-true, not-true, lt-ltb, le-ltb, ne-eqb}
 use Rattle.scope.specs.Sheet.{Number, number, Clause, mostWishes, mostLiterals}
 use Rattle.scope.specs.Reading.{Row}
 use Rattle.scope.specs.Meaning.{all}
@@ -23,14 +24,14 @@ use Rattle.sheet.specs.Steps as sheet
 use Rattle.sheet.specs.Steps.{WishColumns}
 use Rattle.scope.specs.Tables.{literalCode, literalAt}
 use Rattle.sheet.specs.laws.Rows.{row, none-left}
-use Rattle.text.specs.Look.{look}
+use Rattle.text.specs.Look.{look, past}
 use Rattle.text.specs.Words.{Stuck, Came, WordRead, NamedRead}
 use Rattle.text.specs.Lines.{Faulted, stuckAt, wishLetter, goesOnWith, linesLeft, Begun, noWish, Literals, WithLiteral, oneLiteral, named, LiteralRead, moreLiterals, literalsLeft, LiteralsRead, WishesTold, wishFault, WithWish, Further, WishKept, WishLineRead, WishLinesRead}
 use Rattle.text.specs.declared.formula.Points.{Points}
 use Rattle.text.specs.declared.lines.Lines.{Lines}
 use Rattle.text.specs.declared.wish.Wish.{Wish}
 use Rattle.text.specs.declared.words.Word.{Word}
-use Rattle.text.specs.laws.Walks.{stands, came, stops, came-came, came-stuck, alike, alike-within}
+use Rattle.text.specs.laws.Walks.{stands, past-moved, past-stayed, came, stops, came-came, came-stuck, alike, alike-within}
 use Rattle.text.specs.laws.Lines.{line-count, goes-on-is, lines-less}
 
 -- a typed sheet, where any will do
@@ -90,7 +91,7 @@ module _ (minus : Bool) (s : List ℕ) (a at : ℕ) (w r : Wish) (k : Word) (h :
 
 -- with a `!` before its name, or without
 module _ (s : List ℕ) (a at : ℕ) (w r : Wish) where
-  pub bang-literal : look s at ≡ code "!" → LiteralRead (named true) s a (at + 1) w r → LiteralRead oneLiteral s a at w r
+  bang-literal : look s at ≡ code "!" → LiteralRead (named true) s a (at + 1) w r → LiteralRead oneLiteral s a at w r
   unfolding step move
   bang-literal e h = record {
     few = h .few;
@@ -101,7 +102,7 @@ module _ (s : List ℕ) (a at : ℕ) (w r : Wish) where
       to : (v : Typed) (xs : Clause) → Came s (wish v xs) at (named true v xs) (at + 1)
       to v xs = came s (wish v xs) (named true v xs) at (stands s at (omega arith)) (rw e)
 
-  pub plain-literal : look s at ≢ code "!" → LiteralRead (named false) s a at w r → LiteralRead oneLiteral s a at w r
+  plain-literal : look s at ≢ code "!" → LiteralRead (named false) s a at w r → LiteralRead oneLiteral s a at w r
   unfolding step move atEnd
   plain-literal e h = record {
     few = h .few;
@@ -111,6 +112,18 @@ module _ (s : List ℕ) (a at : ℕ) (w r : Wish) where
     where
       same : (v : Typed) (xs : Clause) → walk (wish v xs) (drop at s) ≡ walk (named false v xs) (drop at s)
       same v xs = alike s (wish v xs) (named false v xs) at (rw (ne-eqb (look s at) (code "!") e)) refl
+
+  -- the name stands past the `!`, if there is one
+  pub begun-literal : (n : ℕ) → n ≡ past s at (code "!" ∷ []) → LiteralRead (named (ltb at n)) s a n w r → LiteralRead oneLiteral s a at w r
+  begun-literal n p h = go (decLe n at)
+    where
+      go : Dec (n ≤ at) → LiteralRead oneLiteral s a at w r
+      go (yes l) =
+          let k : n ≡ at = omega arith in
+          plain-literal (past-stayed s at (code "!") (omega arith) (omega arith)) (rw (le-ltb at n l, k) at h)
+      go (no l) =
+          let (e, k) = past-moved s at (code "!") (omega arith) (omega arith) in
+          bang-literal e (rw (lt-ltb at n (omega arith), p ∙ k) at h)
 
 -- ---- one to three literals
 

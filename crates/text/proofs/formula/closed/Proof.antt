@@ -1,12 +1,14 @@
+-- `formula::closed` meets its contract: from the next significant place the place has moved past a bracket exactly where one stands there.
+-- Assumes nothing.
 use Prim.Native.Char.{code}
-use mathlib.Core.Path.{_≡_, sym, ap, _∙_}
+use mathlib.Core.Path.{ap, sym, _∙_}
 use native.Mathlib.Omega.{arith}
 use denote.Ref.{now}
-use borrow.Author.Tests.{eq-eqb, ne-eqb}
-use Rattle.text.specs.Look.{look, skip}
-use Rattle.text.specs.Formulas.{signAt, closedOf}
-use Rattle.text.specs.laws.Walks.{stands}
 use borrow.Author.Needs.{needs}
+use borrow.Author.Tests.{eq-eqb, ne-eqb}
+use Rattle.text.specs.Look.{look}
+use Rattle.text.specs.Formulas.{signAt, closedOf}
+use Rattle.text.specs.laws.Walks.{past-moved, past-stayed}
 use Rattle.text.proofs.formula.closed.Statement.{statement}
 use Rattle.text.proofs.formula.closed.Tie as tie
 
@@ -20,23 +22,17 @@ returns c = c .same .ensures ∙ rw (c .before .if1 .taken)
 skip-requires : tie.Need-skip-requires
 skip-requires c κs = search needs
 
-look-requires : tie.Need-look-requires
-look-requires c κs = search needs
-
-add-t7 : tie.Need-add-t7
-add-t7 c =
-    let a = c .before .before .before .before .before .args in
-    let e = c .before .before .skip .ensures in
-    let f = c .before .look .ensures in
-    omega (arith, stands (now (a .s)) (c .before .before .skip .result) (omega arith))
+past-byte-requires : tie.Need-past-byte-requires
+past-byte-requires c κs = search needs
 
 returns-2 : tie.Need-returns-2
 unfolding closedOf
 returns-2 c =
     let a = c .before .before .before .before .before .args in
     let e = c .before .before .skip .ensures in
-    let f : signAt (now (a .s)) (a .p .at) ≡ code ")" = ap (look (now (a .s))) (sym e) ∙ sym (c .before .look .ensures) ∙ c .if2 .taken in
-    rw (c .before .before .before .if1 .left, eq-eqb _ _ f, e)
+    let p = c .before .past-byte .ensures in
+    let (b, m) = past-moved (now (a .s)) (c .before .before .skip .result) (code ")") (omega arith) (omega arith) in
+    rw (c .before .before .before .if1 .left, eq-eqb (signAt (now (a .s)) (a .p .at)) (code ")") (ap (look (now (a .s))) (sym e) ∙ b), p ∙ m, e)
 
 stuck-requires : tie.Need-stuck-requires
 stuck-requires c κs = search needs
@@ -46,9 +42,18 @@ unfolding closedOf
 returns-3 c =
     let a = c .before .before .before .before .before .before .args in
     let e = c .before .before .before .skip .ensures in
-    rw (c .before .before .before .before .if1 .left, ne-eqb (signAt (now (a .s)) (a .p .at)) (code ")") (λ z. c .before .if2 .left (c .before .before .look .ensures ∙ ap (look (now (a .s))) e ∙ z)), ← e) (c .stuck .ensures)
+    let p = c .before .before .past-byte .ensures in
+    let f = past-stayed (now (a .s)) (c .before .before .before .skip .result) (code ")") (omega arith) (omega arith) in
+    rw (c .before .before .before .before .if1 .left, ne-eqb (signAt (now (a .s)) (a .p .at)) (code ")") (λ z. f (ap (look (now (a .s))) e ∙ z)), ← e) (c .stuck .ensures)
 
 pub closed-spec : {M : Type 1} → statement M
 closed-spec =
     tie.close
-    (tie.spec same-requires returns skip-requires look-requires add-t7 returns-2 stuck-requires returns-3)
+    (tie.spec
+    same-requires
+    returns
+    skip-requires
+    past-byte-requires
+    returns-2
+    stuck-requires
+    returns-3)
