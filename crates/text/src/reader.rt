@@ -54,6 +54,7 @@ fn same_bytes(text: &[u8], at: usize, word: &[u8]) -> usize
     i
 }
 
+// A reader at a place.
 pub fn new<'a>(text: &'a [u8], at: usize) -> Reader<'a>
     ensures { λ r. ⌜ (r .text ≡ text .entry) × (r .at ≡ at) ⌝ }
 {
@@ -94,14 +95,14 @@ pub fn look(text: &[u8], at: usize) -> u32
     next(new(text, at))
 }
 
-// The place that a reader comes to from there, past a byte.
+// The place that a reader comes to from there, past a byte if it stands there.
 pub fn past_byte(text: &[u8], at: usize, b: u8) -> usize
     ensures { λ r. ⌜ r ≡ specs.past (now (text .entry)) at (b ∷ []) ⌝ }
 {
     pass_byte(new(text, at), b).at
 }
 
-// Or past as much of a word as stands there.
+// The same, past as much of a word as stands there.
 pub fn past_word(text: &[u8], at: usize, word: &[u8]) -> usize
     ensures { λ r. ⌜ r ≡ specs.past (now (text .entry)) at (now (word .entry)) ⌝ }
 {

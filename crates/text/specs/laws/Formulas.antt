@@ -72,6 +72,7 @@ unfolding operators known point gatesOf
 or-joint = record { operators-are = λ x y. refl; known-is = λ a f x y. refl; point-is = λ a f g x y. refl; gates-are = λ a f g x y. refl; kind-is = λ p q. (refl, refl, refl) }
 
 module _ (J : Formula → Formula → Formula) (G : ℕ → ℕ → Gate) (letter : ℕ) (j : Joint J G letter) (a f g : ℕ) (ok : Bool) (at : ℕ) (x y : Formula) (p q r : Parsed) (from : ℕ) (later : p .at < from) (b : Built a f g ok at x p) (c : Built a f (p .gates) (p .known) from y q) where
+  -- the second operand begins with the gates of the first, and the operator's own gate comes after both
   join-built : r ≡ gated a f q → Built a f g ok at (J x y) r
   join-built e =
       let m : p .gates ≡ g + operators x = b .gates in
@@ -88,6 +89,7 @@ module _ (J : Formula → Formula → Formula) (G : ℕ → ℕ → Gate) (lette
       }
 
   module _ (kind left right kinds lefts rights mid₁ mid₂ mid₃ ends₁ ends₂ ends₃ : List ℕ) where
+    -- the columns get the gates of the first operand, those of the second, and then the operator's own: the order of the definition
     join-filled : Filled a f g x (p .gates) kind left right kinds lefts rights → Filled a f (p .gates) y (q .gates) kinds lefts rights mid₁ mid₂ mid₃ → Gated a f letter (p .point) (q .point) q r mid₁ mid₂ mid₃ ends₁ ends₂ ends₃ → q .bad ≡ false → Filled a f g (J x y) (r .gates) kind left right ends₁ ends₂ ends₃
     join-filled h i k e gs o =
         let n : p .gates ≡ g + operators x = b .gates in
@@ -288,6 +290,7 @@ turn-begins s depth a f g ok at p kind left right asked e k = record {
 }
 
 module _ (s : List ℕ) (depth a f g : ℕ) (ok : Bool) (at : ℕ) (asked : Asked s a f g at) (first : Bool) (from : ℕ) (p q r : Parsed) (kind left right kinds lefts rights mid₁ mid₂ mid₃ ends₁ ends₂ ends₃ : List ℕ) (turn : OrsTurn s depth a f g ok at first from p kind left right kinds lefts rights) (hq : AndsRead s depth a f (p .gates) (p .known) from q kinds lefts rights mid₁ mid₂ mid₃) (gate : OrGated first a f (p .point) q r mid₁ mid₂ mid₃ ends₁ ends₂ ends₃) where
+  -- in the first turn what is read stands alone, and in a later one it joins what the turns before it have read
   pub turn-read : OrsRead s depth a f g ok at r kind left right ends₁ ends₂ ends₃
   turn-read = go first refl
     where
@@ -464,6 +467,7 @@ too-deep s depth a f g ok at r kind left right d w e z = rw z record {
 -- ---- a single number
 
 module _ (s : List ℕ) (a f g : ℕ) (ok : Bool) (at : ℕ) (asked : Asked s a f g at) where
+  -- a switch or a fault: the walk goes on with the number of its slot, and no gate is added
   atom-read : (n : Word) (r : Parsed) (x : Formula) (slot : Around factor → Slot) → ((k : Around factor) → zeroOk (slot k) ≡ false) → ((k : Around factor) → numberDone (slot k) (n .value) ≡ operandDone k x) → ((k : Around factor) → Came s (operand k) at (digits (slot k)) (at + 1))
       → (operators x ≡ 0) → (gatesOf a f g x ≡ []) → NumberRead s false (at + 1) n → r ≡ record { bad = n .bad; at = n .at; point = point a f g x; gates = g; known = ok && known a f x } → AtomRead s a f g ok at r
   atom-read n r x slot none done to no-operators no-gates h z depth kind left right = go (n .bad) refl

@@ -59,8 +59,8 @@ module _ (rss : List (List Row)) (rs : List Row) (f : Fault) (h : Faulted rss f)
 -- ---- the first two lines
 
 module _ (s : List ℕ) (a : Word) (ha : NamedRead s (bytes "switches ") true 0 a) where
-  pub switches-bad : (r : Head) → a .bad ≡ true → r .bad ≡ true → r .at ≡ a .at → HeadRead s r
-  switches-bad r b c d = record { good = λ t. clash c t; bad = λ t. rw d (ha .bad b switches refl) }
+  pub switches-bad : (r : Head) → a .bad ≡ true → r ≡ record { bad = true; at = a .at; switches = 0; faults = 0 } → HeadRead s r
+  switches-bad r b e = rw e record { good = λ t. clash refl t; bad = λ t. ha .bad b switches refl }
 
   module _ (b : a .bad ≡ false) where
     to-faults : Came s start 0 (word (bytes "\nfaults ") (digits (faults (a .value)))) (a .at)
@@ -71,12 +71,13 @@ module _ (s : List ℕ) (a : Word) (ha : NamedRead s (bytes "switches ") true 0 
     faults-within = to-faults .within
 
     module _ (f : Word) (hf : NamedRead s (bytes "\nfaults ") true (a .at) f) where
-      pub faults-bad : (r : Head) → f .bad ≡ true → r .bad ≡ true → r .at ≡ f .at → HeadRead s r
-      faults-bad r c d n = record { good = λ t. clash d t; bad = λ t. rw n (came-stuck s start (word (bytes "\nfaults ") (digits (faults (a .value)))) 0 (a .at) (f .at) to-faults (hf .bad c (faults (a .value)) refl)) }
+      pub faults-bad : (r : Head) → f .bad ≡ true → r ≡ record { bad = true; at = f .at; switches = 0; faults = 0 } → HeadRead s r
+      faults-bad r c e = rw e record { good = λ t. clash refl t; bad = λ t. came-stuck s start (word (bytes "\nfaults ") (digits (faults (a .value)))) 0 (a .at) (f .at) to-faults (hf .bad c (faults (a .value)) refl) }
 
       pub feed-within : f .bad ≡ false → f .at ≤ length s
       feed-within c = hf .good c (faults (a .value)) refl .within
 
+      -- past both numbers the walk comes, or is stuck, as it does at the line feed after them
       pub head-read : (e : Word) (r : Head) → f .bad ≡ false → WordRead s (bytes "\n") (f .at) e → r ≡ record { bad = e .bad; at = e .at; switches = a .value; faults = f .value } → HeadRead s r
       unfolding numberDone
       head-read e r c h z =
@@ -172,6 +173,7 @@ module _ (s : List ℕ) (c : Points) (l : Lines) (kind left right rule : List �
     to-formula : Came s start 0 formula (w .at)
     to-formula = came-came s start (word (bytes "rule ") formula) formula 0 (l .at) (w .at) (rule-begins s told (l .at) begins (h .came)) (hw .good b formula)
 
+    -- the gates are at most as many as the bytes before the line, so no more than those before the formula
     pub rule-asked : Asked s (c .switches) (c .faults) (l .gates) (w .at)
     rule-asked =
         let n : l .at < w .at = hw .good b formula .ahead in
@@ -213,6 +215,7 @@ module _ (s : List ℕ) (c : Points) (l : Lines) (kind left right rule : List �
               no (rw z g) (rw z (came-stuck s start formula 0 (w .at) (p .at) to-formula (hp .bad g (line told) refl)))
           go false g = end g (eqb (look s (p .at)) (code "\n")) refl
 
+      -- a bad line is stuck where its formula or its line feed is
       pub rule-bad : q .bad ≡ true → (r : Lines) → r ≡ stuckAt (q .at) → RulesRead s c r kinds lefts rights rule × (r .bad ≡ false → l .at < r .at)
       rule-bad t r e = go fed
         where
@@ -220,6 +223,7 @@ module _ (s : List ℕ) (c : Points) (l : Lines) (kind left right rule : List �
           go (no u k) = rw e (record { good = λ u. clash refl u; bad = λ u. k }, λ u. clash refl u)
           go (yes g e z) = clash t (rw z g)
 
+      -- the formula is one more rule: its walk, its gates, its point and its fault come after those of the rules told so far
       pub rule-good : q .bad ≡ false → (rules : List ℕ) → ((ps : List ℕ) → RulesHold ps (l .rules) rule → RulesHold (ps ++ q .point ∷ []) (l .rules + 1) rules) → (r : Lines) → WithRule l q r → RulesRead s c r kinds lefts rights rules × (r .bad ≡ false → l .at < r .at)
       rule-good t rules keep r k = go fed
         where
@@ -265,6 +269,7 @@ module _ (s : List ℕ) (c : Points) (l : Lines) (kind left right rule : List �
 -- ---- from line to line
 
 module _ (s : List ℕ) (l : Lines) (b : ℕ) where
+  -- the two tests, one by one
   pub goes-on-is : goesOnWith s l b ≡ true → (l .bad ≡ false) × (look s (l .at) ≡ b)
   unfolding goesOnWith
   goes-on-is e = go (l .bad) refl e

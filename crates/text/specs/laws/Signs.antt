@@ -42,6 +42,7 @@ skip-least s i = go (eqb (look s i) space)
     go true = omega arith
     go false = omega arith
 
+-- a space that is skipped stands in the text
 pub skip-within : (s : List ℕ) (i : ℕ) → i ≤ length s → skip s i ≤ length s
 unfolding skip
 skip-within s i h = go (eqb (look s i) space) refl
@@ -58,7 +59,7 @@ operand-spaced s k n = go (eqb (look s n) space) refl
     go : (b : Bool) → eqb (look s n) space ≡ b → walk (spaced k) (drop n s) ≡ walk (operand k) (drop (skip s n) s)
     go true e =
         let f : look s n ≡ space = eqb-true (look s n) space e in
-        rw (skip-space s n f) (came s (spaced k) (operand k) n (stands s n (omega arith)) (rw f) .walk)
+        rw (skip-space s n f) (came s (spaced k) (operand k) n (omega arith) (rw f) .walk)
     go false e = rw (skip-here s n (eqb-false (look s n) space e)) (alike s (spaced k) (operand k) n (rw e) refl)
 
 -- a space before a sign
@@ -69,7 +70,7 @@ sign-spaced s a x n h = go (eqb (look s n) space) refl
     go : (b : Bool) → eqb (look s n) space ≡ b → walk (after a x) (drop n s) ≡ walk (sign a x) (drop (skip s n) s)
     go true e =
         let f : look s n ≡ space = eqb-true (look s n) space e in
-        rw (skip-space s n f) (came s (after a x) (sign a x) n (stands s n (omega arith)) (rw f) .walk)
+        rw (skip-space s n f) (came s (after a x) (sign a x) n (omega arith) (rw f) .walk)
     go false e =
         let i : skip s n ≡ n = skip-here s n (eqb-false (look s n) space e) in
         let f : eqb (look s n) lineFeed ≡ false = ne-eqb (look s n) lineFeed (subst (λ i. look s i ≢ lineFeed) i h) in
@@ -81,8 +82,7 @@ module _ (s : List ℕ) (a : Around ands) (x : Formula) (n : ℕ) where
   -- from the sign to the operand after it
   to-operand : (k : Around factor) → signAt s n < end → signAt s n ≢ lineFeed → step (sign a x) (signAt s n) ≡ some (spaced k) → Came s (after a x) n (operand k) (operandAt s n)
   to-operand k h f e =
-      let i : skip s n < length s = stands s (skip s n) h in
-      let c : Came s (sign a x) (skip s n) (spaced k) (skip s n + 1) = came s (sign a x) (spaced k) (skip s n) i e in
+      let c : Came s (sign a x) (skip s n) (spaced k) (skip s n + 1) = came s (sign a x) (spaced k) (skip s n) h e in
       record {
         ahead = omega (arith, skip-least s n, skip-least s (skip s n + 1));
         within = skip-within s (skip s n + 1) (c .within);
@@ -100,8 +100,7 @@ module _ (s : List ℕ) (a : Around ands) (x : Formula) (n : ℕ) where
   pub close-walk : (k : Around factor) → outside a ≡ bracket k → signAt s n ≡ code ")" → Came s (after a x) n (operandDone k (joinedOr a x)) (skip s n + 1)
   unfolding step move
   close-walk k o e =
-      let i : skip s n < length s = stands s (skip s n) (omega arith) in
-      let c : Came s (sign a x) (skip s n) (operandDone k (joinedOr a x)) (skip s n + 1) = came s (sign a x) (operandDone k (joinedOr a x)) (skip s n) i (rw (e, o)) in
+      let c : Came s (sign a x) (skip s n) (operandDone k (joinedOr a x)) (skip s n + 1) = came s (sign a x) (operandDone k (joinedOr a x)) (skip s n) (omega arith) (rw (e, o)) in
       record { ahead = omega (arith, skip-least s n); within = c .within; walk = sign-spaced s a x n (λ f. omega arith) ∙ c .walk }
 
   -- no sign fits, nor a line feed
@@ -113,7 +112,7 @@ module _ (s : List ℕ) (a : Around ands) (x : Formula) (n : ℕ) where
       go true g =
           let i : look s n ≡ space = eqb-true (look s n) space g in
           let j : skip s n ≡ n + 1 = skip-space s n i in
-          let c : Came s (after a x) n (sign a x) (n + 1) = came s (after a x) (sign a x) n (stands s n (omega arith)) (rw i) in
+          let c : Came s (after a x) n (sign a x) (n + 1) = came s (after a x) (sign a x) n (omega arith) (rw i) in
           subst (λ m. Stuck s (after a x) n m) (sym j) (came-stuck s (after a x) (sign a x) n (n + 1) (n + 1) c (stops s (sign a x) (n + 1) (c .within) (subst (λ m. step (sign a x) (look s m) ≡ none) j e) refl))
       go false g = let i : look s n ≢ space = eqb-false (look s n) space g in subst (λ m. Stuck s (after a x) n m) (sym (skip-here s n i)) (stops s (after a x) n h (f i) refl)
 
@@ -136,8 +135,9 @@ module _ (s : List ℕ) (a : Around ands) (x : Formula) (n : ℕ) where
   -- the line feed after a rule
   pub feed-walk : (v : Typed) → outside a ≡ line v → look s n ≡ lineFeed → Came s (after a x) n (ruleLine (addRule v (joinedOr a x))) (n + 1)
   unfolding step move
-  feed-walk v o e = came s (after a x) (ruleLine (addRule v (joinedOr a x))) n (stands s n (omega arith)) (rw (e, o))
+  feed-walk v o e = came s (after a x) (ruleLine (addRule v (joinedOr a x))) n (omega arith) (rw (e, o))
 
+  -- the formula of a rule is in no bracket, so no `)` fits either
   pub feed-stuck : (v : Typed) → outside a ≡ line v → n ≤ length s → look s n ≢ lineFeed → signAt s n ≢ andSign → signAt s n ≢ orSign → Stuck s (after a x) n (skip s n)
   unfolding step move
   feed-stuck v o h f p q = sign-stuck h here (rw (ne-eqb (signAt s n) andSign p, ne-eqb (signAt s n) orSign q) (either (eqb (signAt s n) (code ")"))))
@@ -155,7 +155,7 @@ module _ (s : List ℕ) (k : Around factor) (at : ℕ) where
   -- a not or a bracket, with a level of nesting left
   deeper : (m : Around factor) → look s at < end → step (operand k) (look s at) ≡ some (spaced m) → Came s (operand k) at (operand m) (skip s (at + 1))
   deeper m h e =
-      let c : Came s (operand k) at (spaced m) (at + 1) = came s (operand k) (spaced m) at (stands s at h) e in
+      let c : Came s (operand k) at (spaced m) (at + 1) = came s (operand k) (spaced m) at h e in
       record { ahead = omega (arith, skip-least s (at + 1)); within = skip-within s (at + 1) (c .within); walk = c .walk ∙ operand-spaced s m (at + 1) }
 
   pub not-walk : nested k < mostNested → look s at ≡ notSign → Came s (operand k) at (operand (bang k)) (skip s (at + 1))
@@ -177,11 +177,11 @@ module _ (s : List ℕ) (k : Around factor) (at : ℕ) where
 
   pub switch-walk : look s at ≡ code "s" → Came s (operand k) at (digits (parsing.switch k)) (at + 1)
   unfolding step move
-  switch-walk e = came s (operand k) (digits (parsing.switch k)) at (stands s at (omega arith)) (rw e)
+  switch-walk e = came s (operand k) (digits (parsing.switch k)) at (omega arith) (rw e)
 
   pub fault-walk : look s at ≡ code "f" → Came s (operand k) at (digits (parsing.fault k)) (at + 1)
   unfolding step move
-  fault-walk e = came s (operand k) (digits (parsing.fault k)) at (stands s at (omega arith)) (rw e)
+  fault-walk e = came s (operand k) (digits (parsing.fault k)) at (omega arith) (rw e)
 
   pub operand-stuck : at ≤ length s → look s at ≢ code "s" → look s at ≢ code "f" → look s at ≢ notSign → look s at ≢ openSign → Stuck s (operand k) at at
   unfolding step move atEnd

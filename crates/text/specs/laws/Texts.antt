@@ -42,6 +42,7 @@ read-stuck s at l h =
 
 -- ---- before the first rule
 
+-- with no rule read the sheet is that of the head, and the columns hold nothing
 pub rules-begin : (s : List ℕ) (h : Head) (l : Lines) (c : Points) → length s ≤ mostText → HeadTold s h → HeadLines h l → c ≡ record { switches = h .switches; faults = h .faults } → RulesTold s c l (replicate mostGates 0) (replicate mostGates 0) (replicate mostGates 0) (replicate mostRules 0)
 unfolding allGates allPoints
 rules-begin s h l c short t k e = rw e record {
@@ -99,6 +100,7 @@ module _ (s : List ℕ) (c : Points) (rules : Lines) (kind left right rule : Lis
       unfolding v
       fault-told e = rw (text-read s (refused (l .fault .number) (l .fault .line) 0) .1 (atFault (h .begun .short) is-legal (k .fault .first e)))
 
+      -- without a fault the text is accepted, so all counts are within the limits, and the columns hold the whole sheet
       pub tables-told : l .fault .number ≡ 0 → tablesFrom (counts (c .switches) (c .faults) (l .gates) (l .rules) (l .wishes)) kind left right rule first second third ≡ outcome (readText s)
       unfolding v sheetOf
       tables-told e =

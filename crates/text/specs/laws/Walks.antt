@@ -1,4 +1,4 @@
--- How a walk goes on from a place of a text. Assumes nothing.
+-- How much of a word stands from a place of a text on, and how a walk goes on from a place. Assumes nothing.
 use Prim.Native.Nat.{ℕ, suc, _+_, _-_, _≤_, _<_}
 use native.Mathlib.Decide.{decLe}
 use native.Mathlib.Numerals.{add-one}
@@ -65,6 +65,7 @@ module _ (s : List ℕ) (i c : ℕ) where
       let h : i < length s = stands s i (omega arith) in
       rw (drop-cons s i 0 h, eq-eqb (getD s i 0) c (sym (look-byte s i h) ∙ e), add-one i)
 
+  -- another byte stands there, or none
   pub standing-none : (w : List ℕ) → look s i ≢ c → standing s i (c ∷ w) ≡ 0
   unfolding standing shared
   standing-none w e = go (decLe (length s) i)
@@ -117,12 +118,14 @@ walk-byte s st at h =
     rw (drop-cons s at 0 h, look-byte s at h, add-one at, n)
 
 -- one byte more
-pub came : (s : List ℕ) (st to : State) (at : ℕ) → at < length s → step st (look s at) ≡ some to → Came s st at to (at + 1)
-came s st to at h e = record {
-  ahead = omega arith;
-  within = omega arith;
-  walk = walk-byte s st at h ∙ ap (λ o. goOn o (length s - at) (λ to. walk to (drop (at + 1) s))) e;
-}
+pub came : (s : List ℕ) (st to : State) (at : ℕ) → look s at < end → step st (look s at) ≡ some to → Came s st at to (at + 1)
+came s st to at b e =
+    let h : at < length s = stands s at b in
+    record {
+      ahead = omega arith;
+      within = omega arith;
+      walk = walk-byte s st at h ∙ ap (λ o. goOn o (length s - at) (λ to. walk to (drop (at + 1) s))) e;
+    }
 
 -- no byte fits
 pub stops-within : (s : List ℕ) (st : State) (at : ℕ) → at < length s → step st (look s at) ≡ none → Stuck s st at at
@@ -154,6 +157,7 @@ came-stuck s st to at n m c d = record { within = d .within; walk = c .walk ∙ 
 pub alike-within : (s : List ℕ) (st to : State) (at : ℕ) → at < length s → step st (look s at) ≡ step to (look s at) → walk st (drop at s) ≡ walk to (drop at s)
 alike-within s st to at h e = walk-byte s st at h ∙ ap (λ o. goOn o (length s - at) (λ st. walk st (drop (at + 1) s))) e ∙ sym (walk-byte s to at h)
 
+-- also where the text ends
 pub alike : (s : List ℕ) (st to : State) (at : ℕ) → step st (look s at) ≡ step to (look s at) → atEnd st ≡ atEnd to → walk st (drop at s) ≡ walk to (drop at s)
 unfolding walk
 alike s st to at e f = go (decLe (length s) at)

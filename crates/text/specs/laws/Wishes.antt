@@ -52,6 +52,7 @@ module _ (w : Wish) (n letter : ℕ) (known now : Bool) (b : now ≡ (w .known &
   still-known : (a : ℕ) (xs : Clause) (x : Number) → Literals a w xs → known ≡ leb (x .size) a → now ≡ all (λ x. leb (x .size) a) (xs ++ x ∷ [])
   still-known a xs x h k = b ∙ ap (λ t. t && known) (h .known) ∙ ap (λ t. all (λ x. leb (x .size) a) xs && t) k ∙ all-more (λ x. leb (x .size) a) xs x
 
+  -- the count is the number of literals so far, so it says which place is the next: here and in the next two
   pub first-literal : w .count ≡ 0 → WithLiteral w n letter known (extended w n now letter (w .second) (w .third))
   first-literal e = record { good = refl; at = refl; count = refl; literals = λ a xs x h. go a xs x h (h .count) }
     where
@@ -81,6 +82,7 @@ module _ (minus : Bool) (s : List ℕ) (a at : ℕ) (w r : Wish) (k : Word) (h :
   pub no-literal : k .bad ≡ true → r ≡ noWish (k .at) → LiteralRead (named minus) s a at w r
   no-literal b e = rw e record { few = omega arith; good = λ t. clash refl t; bad = λ t v xs. h .bad b (literal v xs minus) refl }
 
+  -- its number with its sign is the literal, and the walk comes past it
   pub named-literal : (n : ℕ) → k .bad ≡ false → w .count < mostLiterals → n ≡ literalCode (number minus (k .value)) → WithLiteral w (k .at) n (leb (k .value) a) r → LiteralRead (named minus) s a at w r
   unfolding numberDone
   named-literal n b l e q = record {
@@ -91,6 +93,7 @@ module _ (minus : Bool) (s : List ℕ) (a at : ℕ) (w r : Wish) (k : Word) (h :
 
 -- with a `!` before its name, or without
 module _ (s : List ℕ) (a at : ℕ) (w r : Wish) where
+  -- past the `!` the walk is at a name with a minus
   bang-literal : look s at ≡ code "!" → LiteralRead (named true) s a (at + 1) w r → LiteralRead oneLiteral s a at w r
   unfolding step move
   bang-literal e h = record {
@@ -100,8 +103,9 @@ module _ (s : List ℕ) (a at : ℕ) (w r : Wish) where
   }
     where
       to : (v : Typed) (xs : Clause) → Came s (wish v xs) at (named true v xs) (at + 1)
-      to v xs = came s (wish v xs) (named true v xs) at (stands s at (omega arith)) (rw e)
+      to v xs = came s (wish v xs) (named true v xs) at (omega arith) (rw e)
 
+  -- with no `!` there, a literal and a name without a minus go on alike
   plain-literal : look s at ≢ code "!" → LiteralRead (named false) s a at w r → LiteralRead oneLiteral s a at w r
   unfolding step move atEnd
   plain-literal e h = record {
@@ -128,13 +132,13 @@ module _ (s : List ℕ) (a at : ℕ) (w r : Wish) where
 -- ---- one to three literals
 
 module _ (s : List ℕ) (v : Typed) (xs : Clause) (n : ℕ) where
-  space-walk : length xs < mostLiterals → look s n ≡ code " " → Came s (ended v xs) n (wish v xs) (n + 1)
+  ended-space : length xs < mostLiterals → look s n ≡ code " " → Came s (ended v xs) n (wish v xs) (n + 1)
   unfolding step move
-  space-walk l e = came s (ended v xs) (wish v xs) n (stands s n (omega arith)) (rw (e, lt-ltb (length xs) mostLiterals l))
+  ended-space l e = came s (ended v xs) (wish v xs) n (omega arith) (rw (e, lt-ltb (length xs) mostLiterals l))
 
-  feed-walk : look s n ≡ code "\n" → Came s (ended v xs) n (wishLine (addWish v xs)) (n + 1)
+  ended-feed : look s n ≡ code "\n" → Came s (ended v xs) n (wishLine (addWish v xs)) (n + 1)
   unfolding step move
-  feed-walk e = came s (ended v xs) (wishLine (addWish v xs)) n (stands s n (omega arith)) (rw e)
+  ended-feed e = came s (ended v xs) (wishLine (addWish v xs)) n (omega arith) (rw e)
 
   -- neither a space nor a line feed goes on
   ended-stuck : n ≤ length s → (ltb (length xs) mostLiterals && eqb (look s n) (code " ")) ≡ false → look s n ≢ code "\n" → Stuck s (ended v xs) n n
@@ -146,6 +150,7 @@ module _ (s : List ℕ) (v : Typed) (xs : Clause) (n : ℕ) where
       go false true i j e = rw (j, i)
       go p false i j e = rw (j, ne-eqb (look s n) (code "\n") f)
 
+-- the three tests, one by one
 more-is : (s : List ℕ) (w : Wish) → moreLiterals s w ≡ true → (w .bad ≡ false) × (w .count < mostLiterals) × (look s (w .at) ≡ code " ")
 unfolding moreLiterals
 more-is s w e =
@@ -177,11 +182,12 @@ module _ (s : List ℕ) (a at : ℕ) where
     bad = λ t v. h .bad t v [];
   }
 
+  -- past the space the walk is at one more literal, which is put last
   pub literals-more : (w r : Wish) → moreLiterals s w ≡ true → LiteralsRead s a at w → LiteralRead oneLiteral s a (w .at + 1) w r → LiteralsRead s a at r
   literals-more w r e h q =
       let (g, n, b) = more-is s w e in
       let (xs, l, c) = h .good g in
-      let to : (v : Typed) → Came s (wish v []) at (wish v xs) (w .at + 1) = λ v. came-came s (wish v []) (ended v xs) (wish v xs) at (w .at) (w .at + 1) (c v) (space-walk s v xs (w .at) (omega (arith, l .count)) b) in
+      let to : (v : Typed) → Came s (wish v []) at (wish v xs) (w .at + 1) = λ v. came-came s (wish v []) (ended v xs) (wish v xs) at (w .at) (w .at + 1) (c v) (ended-space s v xs (w .at) (omega (arith, l .count)) b) in
       record {
         few = q .few;
         good = λ t. let (x, m, d) = q .good t in (xs ++ x ∷ [], m xs l, (λ v. came-came s (wish v []) (wish v xs) (ended v (xs ++ x ∷ [])) at (w .at + 1) (r .at) (to v) (d v xs)));
@@ -207,6 +213,7 @@ wish-fault : (a n j : ℕ) (known : Bool) (w : Clause) → n ≡ j → known ≡
 wish-fault a n j known w e f = row 5 refl (ap (λ k. ltb k mostWishes) e) (omega arith) (row 6 refl f (omega arith) none-left)
 
 module _ (a f : ℕ) where
+  -- a row has the number of the wishes before it, which grows by one with each
   wish-rows : (j : ℕ) (ws : List Clause) (w : Clause) → wishRows a f j (ws ++ w ∷ []) ≡ wishRows a f j ws ++ wishRow a (j + length ws) w ∷ []
   unfolding wishRows
   wish-rows j [] w = rw add-zero
@@ -252,25 +259,26 @@ module _ (s : List ℕ) (c : Points) (l r : Lines) (begun : Begun s c l) (letter
         abbrev xs : Clause
         xs = lits .good g .0
 
-        to-end : (v : Typed) → Came s (wishLine v) (l .at) (ended v xs) (w .at)
-        to-end v = came-came s (wishLine v) (wish v []) (ended v xs) (l .at) (name .at) (w .at) (to-wish v) (lits .good g .2 v)
+        to-ended : (v : Typed) → Came s (wishLine v) (l .at) (ended v xs) (w .at)
+        to-ended v = came-came s (wishLine v) (wish v []) (ended v xs) (l .at) (name .at) (w .at) (to-wish v) (lits .good g .2 v)
 
         pub no-feed : moreLiterals s w ≡ false → look s (w .at) ≢ code "\n" → r ≡ stuckAt (w .at) → WishLineRead s c l r first second third firsts seconds thirds
         unfolding moreLiterals
         no-feed m f e =
             let o : (ltb (length xs) mostLiterals && eqb (look s (w .at)) (code " ")) ≡ false = rw (g, lits .good g .1 .count) at m in
-            halts (w .at) e (λ v. came-stuck s (wishLine v) (ended v xs) (l .at) (w .at) (w .at) (to-end v) (ended-stuck s v xs (w .at) (to-end v .within) o f))
+            halts (w .at) e (λ v. came-stuck s (wishLine v) (ended v xs) (l .at) (w .at) (w .at) (to-ended v) (ended-stuck s v xs (w .at) (to-ended v .within) o f))
 
+        -- the literals are one more wish: its walk, its columns and its fault come after those told so far
         pub wish-read : look s (w .at) ≡ code "\n" → WishKept (l .wishes) (w .first) (w .second) (w .third) first second third firsts seconds thirds → WithWish l w r → WishLineRead s c l r first second third firsts seconds thirds
-        wish-read e keep q = ((λ rules told. record { good = λ t. told-more rules told; bad = λ t. clash t (q .good) }), (λ t. (further, omega (arith, q .at, to-end anyTyped .ahead))))
+        wish-read e keep q = ((λ rules told. record { good = λ t. told-more rules told; bad = λ t. clash t (q .good) }), (λ t. (further, omega (arith, q .at, to-ended anyTyped .ahead))))
           where
             line : (v : Typed) → Came s (wishLine v) (l .at) (wishLine (addWish v xs)) (w .at + 1)
-            line v = came-came s (wishLine v) (ended v xs) (wishLine (addWish v xs)) (l .at) (w .at) (w .at + 1) (to-end v) (feed-walk s v xs (w .at) e)
+            line v = came-came s (wishLine v) (ended v xs) (wishLine (addWish v xs)) (l .at) (w .at) (w .at + 1) (to-ended v) (ended-feed s v xs (w .at) e)
 
             further : Further s c l r
             further =
                 let d : Came s (wishLine anyTyped) (l .at) (wishLine (addWish anyTyped xs)) (w .at + 1) = line anyTyped in
-                let m : l .at < w .at = to-end anyTyped .ahead in
+                let m : l .at < w .at = to-ended anyTyped .ahead in
                 record {
                   begun = record {
                     good = q .good;

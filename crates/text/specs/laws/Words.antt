@@ -17,7 +17,7 @@ use Rattle.scope.specs.laws.Walked.{number-plain}
 use Rattle.text.specs.Look.{look, shared, standing, past}
 use Rattle.text.specs.Words.{Came, rest, WordRead, NumberRead, NamedRead}
 use Rattle.text.specs.declared.words.Word.{Word}
-use Rattle.text.specs.laws.Walks.{stands, past-within, came, stops, came-came, came-stuck, alike}
+use Rattle.text.specs.laws.Walks.{past-within, came, stops, came-came, came-stuck, alike}
 
 -- ---- the bytes of a word
 
@@ -34,22 +34,22 @@ word-stops c [] st b e = rw e
 word-stops c (d ∷ w) st b e = rw e
 
 -- where the whole word stands, each of its bytes is the one asked for
-passes : (st : State) (t w : List ℕ) → length w ≤ shared t w → walk (rest w st) t ≡ walk st (drop (shared t w) t)
+word-passes : (st : State) (t w : List ℕ) → length w ≤ shared t w → walk (rest w st) t ≡ walk st (drop (shared t w) t)
 unfolding walk shared
-passes st t [] h = refl
-passes st [] (c ∷ w) h = absurd (omega arith)
-passes st (b ∷ t) (c ∷ w) h = go (eqb b c) refl h (passes st t w)
+word-passes st t [] h = refl
+word-passes st [] (c ∷ w) h = absurd (omega arith)
+word-passes st (b ∷ t) (c ∷ w) h = go (eqb b c) refl h (word-passes st t w)
   where
     go : (x : Bool) → eqb b c ≡ x → suc (length w) ≤ cond x (suc (shared t w)) 0 → (length w ≤ shared t w → walk (rest w st) t ≡ walk st (drop (shared t w) t)) → walk (word (c ∷ w) st) (b ∷ t) ≡ walk st (drop (cond x (suc (shared t w)) 0) (b ∷ t))
     go true e l more = rw (word-step c w st b e) (more (omega arith))
     go false e l more = absurd (omega arith)
 
 -- where only a part of it stands, the byte after that part is another, or none
-halts : (st : State) (t w : List ℕ) → shared t w < length w → walk (rest w st) t ≡ stuck (length t - shared t w)
+word-halts : (st : State) (t w : List ℕ) → shared t w < length w → walk (rest w st) t ≡ stuck (length t - shared t w)
 unfolding walk shared atEnd
-halts st t [] h = absurd (omega arith)
-halts st [] (c ∷ w) h = refl
-halts st (b ∷ t) (c ∷ w) h = go (eqb b c) refl h (halts st t w)
+word-halts st t [] h = absurd (omega arith)
+word-halts st [] (c ∷ w) h = refl
+word-halts st (b ∷ t) (c ∷ w) h = go (eqb b c) refl h (word-halts st t w)
   where
     go : (x : Bool) → eqb b c ≡ x → cond x (suc (shared t w)) 0 < suc (length w) → (shared t w < length w → walk (rest w st) t ≡ stuck (length t - shared t w)) → walk (word (c ∷ w) st) (b ∷ t) ≡ stuck (suc (length t) - cond x (suc (shared t w)) 0)
     go true e l more = let n : suc (length t) - suc (shared t w) ≡ length t - shared t w = omega arith in rw (word-step c w st b e, n) (more (omega arith))
@@ -61,13 +61,15 @@ rest-whole [] st h = absurd (omega arith)
 rest-whole (c ∷ w) st h = refl
 
 module _ (s w : List ℕ) (at : ℕ) (within : at ≤ length s) (long : 0 < length w) (r : Word) where
+  -- the whole word stands, and the walk comes past it
   pub word-good : length w ≤ standing s at w → r ≡ record { bad = false; at = past s at w; value = 0 } → WordRead s w at r
   unfolding standing
   word-good all q = rw q record {
-    good = λ t st. record { ahead = omega arith; within = past-within s at w within; walk = rw (← rest-whole w st long, ← drop-drop (standing s at w) at s) (passes st (drop at s) w all) };
+    good = λ t st. record { ahead = omega arith; within = past-within s at w within; walk = rw (← rest-whole w st long, ← drop-drop (standing s at w) at s) (word-passes st (drop at s) w all) };
     bad = λ t. clash t refl;
   }
 
+  -- only a part of it stands, and the walk is stuck after that
   pub word-bad : standing s at w < length w → r ≡ record { bad = true; at = past s at w; value = 0 } → WordRead s w at r
   unfolding standing
   word-bad part q = rw q record {
@@ -76,7 +78,7 @@ module _ (s w : List ℕ) (at : ℕ) (within : at ≤ length s) (long : 0 < leng
       within = past-within s at w within;
       walk =
           let n : length s - past s at w ≡ length (drop at s) - standing s at w = omega (arith, length-drop at s) in
-          rw (← rest-whole w st long, n) (halts st (drop at s) w part);
+          rw (← rest-whole w st long, n) (word-halts st (drop at s) w part);
     };
   }
 
@@ -94,14 +96,16 @@ a-digit : (b : ℕ) → code "0" ≤ b → b ≤ code "9" → isDigit b ≡ true
 a-digit b h l = rw (le-leb (code "0") b h, le-leb b (code "9") l)
 
 module _ (s : List ℕ) (zero : Bool) (at : ℕ) (within : at ≤ length s) (r : Word) where
+  -- a zero ends the number, where it may stand
   pub number-zero : look s at ≡ code "0" → zero ≡ true → r ≡ record { bad = false; at = at + 1; value = 0 } → NumberRead s zero at r
   unfolding step move
   number-zero e z q = rw q record {
-    good = λ t slot h. came s (digits slot) (numberDone slot 0) at (stands s at (omega arith)) (rw (e, h, z));
+    good = λ t slot h. came s (digits slot) (numberDone slot 0) at (omega arith) (rw (e, h, z));
     few = omega arith;
     bad = λ t. clash t refl;
   }
 
+  -- no number begins here
   number-bad : ((slot : Slot) → zeroOk slot ≡ zero → step (digits slot) (look s at) ≡ none) → r ≡ record { bad = true; at = at; value = 0 } → NumberRead s zero at r
   unfolding atEnd
   number-bad e q = rw q record {
@@ -121,8 +125,9 @@ module _ (s : List ℕ) (zero : Bool) (at : ℕ) (within : at ≤ length s) (r :
   module _ (e : look s at ≢ code "0") (low : code "0" ≤ look s at) (high : look s at ≤ code "9") where
     first-digit : (slot : Slot) → Came s (digits slot) at (second slot (look s at - code "0")) (at + 1)
     unfolding step move
-    first-digit slot = came s (digits slot) (second slot (look s at - code "0")) at (stands s at (omega arith)) (rw (ne-eqb (look s at) (code "0") e, a-digit (look s at) low high))
+    first-digit slot = came s (digits slot) (second slot (look s at - code "0")) at (omega arith) (rw (ne-eqb (look s at) (code "0") e, a-digit (look s at) low high))
 
+    -- a byte that is no digit moves on from a first digit as from a number that is complete
     pub number-one : NoDigit (look s (at + 1)) → r ≡ record { bad = false; at = at + 1; value = look s at - code "0" } → NumberRead s zero at r
     unfolding step atEnd
     number-one d q = rw q record {
@@ -135,6 +140,7 @@ module _ (s : List ℕ) (zero : Bool) (at : ℕ) (within : at ≤ length s) (r :
       bad = λ t. clash t refl;
     }
 
+    -- two digits, one step each
     pub number-two : code "0" ≤ look s (at + 1) → look s (at + 1) ≤ code "9" → r ≡ record { bad = false; at = at + 2; value = (look s at - code "0") * 10 + (look s (at + 1) - code "0") } → NumberRead s zero at r
     unfolding step
     number-two l h q = rw q record {
@@ -142,7 +148,7 @@ module _ (s : List ℕ) (zero : Bool) (at : ℕ) (within : at ≤ length s) (r :
           let n : ℕ = look s at - code "0" in
           let c : Came s (digits slot) at (second slot n) (at + 1) = first-digit slot in
           let k : at + 1 + 1 ≡ at + 2 = omega arith in
-          let d : Came s (second slot n) (at + 1) (numberDone slot (n * 10 + (look s (at + 1) - code "0"))) (at + 2) = rw k at (came s (second slot n) (numberDone slot (n * 10 + (look s (at + 1) - code "0"))) (at + 1) (stands s (at + 1) (omega arith)) (rw (a-digit (look s (at + 1)) l h))) in
+          let d : Came s (second slot n) (at + 1) (numberDone slot (n * 10 + (look s (at + 1) - code "0"))) (at + 2) = rw k at (came s (second slot n) (numberDone slot (n * 10 + (look s (at + 1) - code "0"))) (at + 1) (omega arith) (rw (a-digit (look s (at + 1)) l h))) in
           came-came s (digits slot) (second slot n) (numberDone slot (n * 10 + (look s (at + 1) - code "0"))) at (at + 1) (at + 2) c d;
       few = omega arith;
       bad = λ t. clash t refl;

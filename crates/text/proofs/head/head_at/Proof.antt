@@ -1,3 +1,4 @@
+-- `head::head_at` meets its contract: its parts are read in turn: where one is bad no legal text goes on, and after the last the two numbers are told.
 use mathlib.Core.Path.{refl}
 use native.Mathlib.Omega.{arith}
 use Rattle.text.specs.laws.Lines.{switches-bad, faults-within, faults-bad, feed-within, head-read}
@@ -11,8 +12,11 @@ slice-aggregate-named-at c = search needs
 named-at-requires : tie.Need-named-at-requires
 named-at-requires c κs = search needs
 
+stuck-requires : tie.Need-stuck-requires
+stuck-requires c κs = search needs
+
 returns : tie.Need-returns
-returns c = switches-bad _ _ (c .before .named-at .ensures) _ (c .if1 .taken) refl refl
+returns c = switches-bad _ _ (c .before .before .named-at .ensures) _ (c .before .if1 .taken) (c .stuck .ensures)
 
 slice-aggregate-named-at-2 : tie.Need-slice-aggregate-named-at-2
 slice-aggregate-named-at-2 c = search needs
@@ -20,8 +24,11 @@ slice-aggregate-named-at-2 c = search needs
 named-at-requires-2 : tie.Need-named-at-requires-2
 named-at-requires-2 c κs = (faults-within _ _ (c .before .before .named-at .ensures) (c .before .if1 .left), omega arith)
 
+stuck-requires-2 : tie.Need-stuck-requires-2
+stuck-requires-2 c κs = search needs
+
 returns-2 : tie.Need-returns-2
-returns-2 c = faults-bad _ _ (c .before .before .before .before .named-at .ensures) (c .before .before .before .if1 .left) _ (c .before .named-at2 .ensures) _ (c .if2 .taken) refl refl
+returns-2 c = faults-bad _ _ (c .before .before .before .before .before .named-at .ensures) (c .before .before .before .before .if1 .left) _ (c .before .before .named-at2 .ensures) _ (c .before .if2 .taken) (c .stuck2 .ensures)
 
 slice-aggregate-word-at : tie.Need-slice-aggregate-word-at
 slice-aggregate-word-at c = search needs
@@ -38,9 +45,11 @@ head-at-spec =
     (tie.spec
     slice-aggregate-named-at
     named-at-requires
+    stuck-requires
     returns
     slice-aggregate-named-at-2
     named-at-requires-2
+    stuck-requires-2
     returns-2
     slice-aggregate-word-at
     word-at-requires

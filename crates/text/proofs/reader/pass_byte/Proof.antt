@@ -64,8 +64,8 @@ stayed = (stay-none B yes, (stay-none (λ _. u8) yes, tt))
 
 module _ {M : Type 1} (𝓤 : URA M) (H : Heap 𝓤) (A : Atoms 𝓤) (mem : Memory → SProp 𝓤) (run : Routine → Fun 𝓤) where
   -- the contract that the proof cites
-  abbrev Same : Contract 𝓤
-  Same = tripleOf 𝓤 H A same.signature (same.spec 𝓤 H A mem run)
+  abbrev SameByte : Contract 𝓤
+  SameByte = tripleOf 𝓤 H A same.signature (same.spec 𝓤 H A mem run)
 
 module _ {M : Type 1} (𝓤 : URA M) (H : Heap 𝓤) (A : Atoms 𝓤) (W : Given 𝓤 H A) (mem : Memory → SProp 𝓤) (run : Routine → Fun 𝓤) (κ : Lft) (q : Share) (d : Reader) (b : ℕ) (b-fits : b < 2 ^ 8) where
   abbrev α : NamedLft
@@ -88,20 +88,20 @@ module _ {M : Type 1} (𝓤 : URA M) (H : Heap 𝓤) (A : Atoms 𝓤) (W : Given
   abbrev passed : Vals same.signature (κ, tt)
   passed = (slice (d .text) ∷ [], (vint w64 (d .at) ∷ [], (vint w8 b ∷ [], tt)))
 
-  abbrev to : Same 𝓤 H A mem run .Ghost
+  abbrev to : SameByte 𝓤 H A mem run .Ghost
   to = (((κ, tt), (q, tt), tt, (d .text, (d .at, (b, tt))), passed), tt)
 
-  asked : ent 𝓤 (onEntry 𝓤 H A same.signature (κ, tt) (q, tt) (d .text, (d .at, (b, tt))) passed) (Same 𝓤 H A mem run .pre to)
+  asked : ent 𝓤 (onEntry 𝓤 H A same.signature (κ, tt) (q, tt) (d .text, (d .at, (b, tt))) passed) (SameByte 𝓤 H A mem run .pre to)
   asked = qed W ((‵ (flft κ q) ⊛ ‵ ftrue) ∷ ‵ (owns (ShrSlice (named 0) κ u8 ∷ usize ∷ u8 ∷ []) (d .text, (d .at, (b, tt))) passed) ∷ []) ∵ join ! $ frame ! $ done !
 
   -- what the struct owns gives what the callee asks, and is kept
-  apart : d .at < 2 ^ 64 → ent 𝓤 (onEntry 𝓤 H A pass.signature (κ, tt) (q, tt) (d, (b, tt)) at) (sep 𝓤 (Same 𝓤 H A mem run .pre to) (sem 𝓤 H A (Own α d)))
+  apart : d .at < 2 ^ 64 → ent 𝓤 (onEntry 𝓤 H A pass.signature (κ, tt) (q, tt) (d, (b, tt)) at) (sep 𝓤 (SameByte 𝓤 H A mem run .pre to) (sem 𝓤 H A (Own α d)))
   apart fits =
       qed W ((‵ (flft κ q) ⊛ ‵ ftrue) ∷ ‵ (owns (B (κ, tt) ∷ u8 ∷ []) (d, (b, tt)) at) ∷ []) ∵
       move ! (1 ∷ []) $ fsplit ! $ use1 W (‵ (OwnSlice κ (d .text)) ⊛ ‵ (Own α d)) (with-text 𝓤 H A W α d) $ split ! $
       -- [what text owns; what the struct owns; what the byte owns; the token]
       move ! (2 ∷ []) $ owned ! usize (Is usize) (uint-makes 𝓤 H A W w64) (d .at) _ (refl, fits) $ fjoin ! $ move ! (1 ∷ 0 ∷ []) $ fjoin ! $
-      move ! (2 ∷ 0 ∷ []) $ use2 W (raw (Same 𝓤 H A mem run .pre to)) asked $ frame ! $ done !
+      move ! (2 ∷ 0 ∷ []) $ use2 W (raw (SameByte 𝓤 H A mem run .pre to)) asked $ frame ! $ done !
 
   -- of the callee's `ensured`, the clause alone: it has no `&mut`, so what is said of last values is dropped
   said : (n : ℕ) → ent 𝓤 (ensured 𝓤 H A same.ended (same.clauses 𝓤 H A mem run) (κ, tt) (d .text, (d .at, (b, tt))) tt n) (fact 𝓤 (n ≡ found))
@@ -115,7 +115,7 @@ module _ {M : Type 1} (𝓤 : URA M) (H : Heap 𝓤) (A : Atoms 𝓤) (W : Given
       -- [what the new struct owns; what the struct owns]
       nothing ! $ owned ! u8 (Is u8) (uint-makes 𝓤 H A W w8) b _ (refl, b-fits) $ fjoin ! $ move ! (2 ∷ 0 ∷ []) $ fjoin ! $ frame ! $ done !
 
-  module _ (C : Calls 𝓤 H) (Λ : Loops 𝓤 H) (fm : FmC 𝓤 H (W .laws) C) (known : Triple 𝓤 (C #same-byte) (Same 𝓤 H A mem run)) where
+  module _ (C : Calls 𝓤 H) (Λ : Loops 𝓤 H) (fm : FmC 𝓤 H (W .laws) C) (known : Triple 𝓤 (C #same-byte) (SameByte 𝓤 H A mem run)) where
     -- by hand, since the parameter and the result hold a reference: the fields are copied, `same_byte` is called, and the struct is made of the slice and the sum
     walk : Holds (hasTy (T′.mir (named 0)) (T′.lowered d)) × WT (T′.lowered d) → ent 𝓤 (onEntry 𝓤 H A pass.signature (κ, tt) (q, tt) (d, (b, tt)) at) (WpFn 𝓤 H C Λ code.function (T′.lowered d ∷ vint w8 b ∷ []) Post)
     walk wt =
@@ -125,8 +125,8 @@ module _ {M : Type 1} (𝓤 : URA M) (H : Heap 𝓤) (A : Atoms 𝓤) (W : Given
         assigns ! (of-opd ! (load ! (from ! (fld ! refl (stop !))) (look-in ! 14 (sub ! 1 refl (whole !))))) (from ! (stop !)) (init ! 8 refl (tt, wt .1 .1 .0)) $
         assigns ! (of-opd ! (load ! (from ! (fld ! refl (stop !))) (look-in ! 14 (sub ! 0 refl (whole !))))) (from ! (stop !)) (init ! 4 refl (tt, wt .1 .0)) $
         assigns ! (of-opd ! (load ! (from ! (fld ! refl (stop !))) (look-in ! 14 (sub ! 1 refl (whole !))))) (from ! (stop !)) (init ! 2 refl (tt, wt .1 .1 .0)) $
-        move ! (18 ∷ []) $ use1 W (raw (Same 𝓤 H A mem run .pre to) ⊛ ‵ (Own α d)) (apart (wt .1 .1 .0 .fits)) $ split ! $
-        calls-at ! fm (Same 𝓤 H A mem run) known to (and-then ! (load ! (from ! (stop !)) (look ! 6 refl)) (and-then ! (load ! (from ! (stop !)) (look ! 4 refl)) (and-then ! (load ! (from ! (stop !)) (look ! 14 refl)) (no-more !)))) (λ u.
+        move ! (18 ∷ []) $ use1 W (raw (SameByte 𝓤 H A mem run .pre to) ⊛ ‵ (Own α d)) (apart (wt .1 .1 .0 .fits)) $ split ! $
+        calls-at ! fm (SameByte 𝓤 H A mem run) known to (and-then ! (load ! (from ! (stop !)) (look ! 6 refl)) (and-then ! (load ! (from ! (stop !)) (look ! 4 refl)) (and-then ! (load ! (from ! (stop !)) (look ! 14 refl)) (no-more !)))) (λ u.
         use1 W (later (some (λ (n : ℕ). ((‵ (flft κ q) ⊛ ‵ ftrue) ⊛ ‵ (usize .own n (u ∷ []))) ⊛ raw (ensured 𝓤 H A same.ended (same.clauses 𝓤 H A mem run) (κ, tt) (d .text, (d .at, (b, tt))) tt n)))) (id⊢ 𝓤 _) $ await ! tt $ pick ! (λ n.
         split ! $ move ! (1 ∷ []) $ use1 W (raw (fact 𝓤 (n ≡ found))) (said n) $ heard ! (n ≡ found) (λ e. split ! $ move ! (1 ∷ []) $
         -- [the result; the token; what the struct owns; _8; …; _7; …; _6; …; room for _5; …; _4; …; _3; …; _2; …; _1; …; room for _0; …]
@@ -138,7 +138,7 @@ module _ {M : Type 1} (𝓤 : URA M) (H : Heap 𝓤) (A : Atoms 𝓤) (W : Given
         move ! (19 ∷ 20 ∷ []) $ free1 ! $ move ! (17 ∷ 18 ∷ []) $ free1 ! $ move ! (15 ∷ 16 ∷ []) $ free1 ! $ move ! (13 ∷ 14 ∷ []) $ free1 ! $ move ! (11 ∷ 12 ∷ []) $ free1 ! $ move ! (9 ∷ 10 ∷ []) $ free1 ! $ move ! (7 ∷ 8 ∷ []) $ free1 ! $ move ! (5 ∷ 6 ∷ []) $ free1 ! $ move ! (3 ∷ 4 ∷ []) $ free1 ! $ free0 ! $ by ! (exits n u e fits))))))))))))))
 
 module _ {M : Type 1} (𝓤 : URA M) (H : Heap 𝓤) (A : Atoms 𝓤) (W : Given 𝓤 H A) (mem : Memory → SProp 𝓤) (run : Routine → Fun 𝓤) where
-  pass-walks : (C : Calls 𝓤 H) (Λ : Loops 𝓤 H) → FmC 𝓤 H (W .laws) C → Triple 𝓤 (C #same-byte) (Same 𝓤 H A mem run)
+  pass-walks : (C : Calls 𝓤 H) (Λ : Loops 𝓤 H) → FmC 𝓤 H (W .laws) C → Triple 𝓤 (C #same-byte) (SameByte 𝓤 H A mem run)
       → Walks 𝓤 H A pass.ended stayed (WpFn 𝓤 H C Λ code.function) (pass.clauses 𝓤 H A mem run)
   pass-walks C Λ fm known = walked 𝓤 H A pass.ended stayed (pass.clauses 𝓤 H A mem run) (WpFn 𝓤 H C Λ code.function) (λ κs. (LL.vals (T.the-type (namedLft 1 0 tt κs)) (T′.the-laws (namedLft 1 0 tt κs)), (uint-vals w8, tt))) (λ κs. (LL.tells (T.the-type (namedLft 1 0 tt κs)) (T′.the-laws (namedLft 1 0 tt κs)), (uint-tells w8, tt)))
       (λ κs qs bounds a g are. via 𝓤 _ (fst∗ 𝓤 _ (emp 𝓤)) (walk 𝓤 H A W mem run (κs .0) (qs .0) (a .0) (a .1 .0) (are .1 .0 .1) C Λ fm known (LL.lawful (T.the-type (namedLft 1 0 tt κs)) (T′.the-laws (namedLft 1 0 tt κs)) 𝓤 H A W .typed (a .0) _ (are .0) .0)))
@@ -152,4 +152,4 @@ pass-byte-spec 𝓤 H 𝓜 𝓖 𝓡 =
     (tables 𝓤 H 𝓜 𝓡 code.env .C) (tables 𝓤 H 𝓜 𝓡 code.env .Λ) #pass-byte code.function (code.unfolded 𝓤 H 𝓜 𝓡)
     (walk-meets 𝓤 H (𝓖 .A) pass.ended stayed W (goes-none 𝓤 H (𝓖 .A) W 1 B yes (λ κs x f. refl), (goes-none 𝓤 H (𝓖 .A) W 1 (λ _. u8) yes (λ κs x f. refl), tt)) (pass.clauses 𝓤 H (𝓖 .A) (𝓜 .mem) (𝓡 .run)) (WpFn 𝓤 H (𝓣 .C) (𝓣 .Λ) code.function) (WpFn-mono 𝓤 H (W .laws) 𝓣 code.function)
     (pass-walks 𝓤 H (𝓖 .A) W (𝓜 .mem) (𝓡 .run) (𝓣 .C) (𝓣 .Λ) (fmOf 𝓤 H (W .laws) 𝓣)
-    (cited 𝓤 H (Same 𝓤 H (𝓖 .A) (𝓜 .mem) (𝓡 .run)) 𝓜 𝓡 code.env #same-byte same-def.routine code.calls-text·reader·same-byte (same-thm.met 𝓤 H 𝓜 𝓖 𝓡))))
+    (cited 𝓤 H (SameByte 𝓤 H (𝓖 .A) (𝓜 .mem) (𝓡 .run)) 𝓜 𝓡 code.env #same-byte same-def.routine code.calls-text·reader·same-byte (same-thm.met 𝓤 H 𝓜 𝓖 𝓡))))

@@ -64,8 +64,8 @@ stayed = (stay-none B yes, (stay-none-slice (1 ∷ []) tt (plain (λ _. u8)) yes
 
 module _ {M : Type 1} (𝓤 : URA M) (H : Heap 𝓤) (A : Atoms 𝓤) (mem : Memory → SProp 𝓤) (run : Routine → Fun 𝓤) where
   -- the contract that the proof cites
-  abbrev Same : Contract 𝓤
-  Same = tripleOf 𝓤 H A same.signature (same.spec 𝓤 H A mem run)
+  abbrev SameBytes : Contract 𝓤
+  SameBytes = tripleOf 𝓤 H A same.signature (same.spec 𝓤 H A mem run)
 
 module _ {M : Type 1} (𝓤 : URA M) (H : Heap 𝓤) (A : Atoms 𝓤) (W : Given 𝓤 H A) (mem : Memory → SProp 𝓤) (run : Routine → Fun 𝓤) (κ κ′ : Lft) (q q′ : Share) (d : Reader) (w : RefT (List ℕ)) where
   abbrev κs : Lfts 2
@@ -94,21 +94,21 @@ module _ {M : Type 1} (𝓤 : URA M) (H : Heap 𝓤) (A : Atoms 𝓤) (W : Given
   abbrev passed : Vals same.signature κs
   passed = (slice (d .text) ∷ [], (vint w64 (d .at) ∷ [], (slice w ∷ [], tt)))
 
-  abbrev to : Same 𝓤 H A mem run .Ghost
+  abbrev to : SameBytes 𝓤 H A mem run .Ghost
   to = ((κs, qs, tt, (d .text, (d .at, (w, tt))), passed), tt)
 
-  asked : ent 𝓤 (onEntry 𝓤 H A same.signature κs qs (d .text, (d .at, (w, tt))) passed) (Same 𝓤 H A mem run .pre to)
+  asked : ent 𝓤 (onEntry 𝓤 H A same.signature κs qs (d .text, (d .at, (w, tt))) passed) (SameBytes 𝓤 H A mem run .pre to)
   asked = qed W ((‵ (flft κ q) ⊛ ‵ (flft κ′ q′) ⊛ ‵ ftrue) ∷ ‵ (owns (ShrSlice (named 0) κ u8 ∷ usize ∷ ShrSlice (named 1) κ′ u8 ∷ []) (d .text, (d .at, (w, tt))) passed) ∷ []) ∵ join ! $ frame ! $ done !
 
   -- what the struct owns gives what the callee asks, and is kept
-  apart : d .at < 2 ^ 64 → ent 𝓤 (onEntry 𝓤 H A pass.signature κs qs (d, (w, tt)) at) (sep 𝓤 (Same 𝓤 H A mem run .pre to) (sep 𝓤 (sem 𝓤 H A (OwnSlice κ′ w)) (sem 𝓤 H A (Own α d))))
+  apart : d .at < 2 ^ 64 → ent 𝓤 (onEntry 𝓤 H A pass.signature κs qs (d, (w, tt)) at) (sep 𝓤 (SameBytes 𝓤 H A mem run .pre to) (sep 𝓤 (sem 𝓤 H A (OwnSlice κ′ w)) (sem 𝓤 H A (Own α d))))
   apart fits =
       qed W ((‵ (flft κ q) ⊛ ‵ (flft κ′ q′) ⊛ ‵ ftrue) ∷ ‵ (owns (B κs ∷ ShrSlice (named 1) κ′ u8 ∷ []) (d, (w, tt)) at) ∷ []) ∵
       move ! (1 ∷ []) $ fsplit ! $ use1 W (‵ (OwnSlice κ (d .text)) ⊛ ‵ (Own α d)) (with-text 𝓤 H A W α d) $ split ! $
       -- [what text owns; what the struct owns; what the word owns; the tokens]
       move ! (2 ∷ []) $ fsplit ! $ use1 W (‵ (OwnSlice κ′ w) ⊛ ‵ (OwnSlice κ′ w)) (shr-slice-copy 𝓤 H A W (named 1) κ′ u8 .twice w (slice w ∷ [])) $ split ! $ move ! (0 ∷ 2 ∷ []) $ fjoin ! $
       owned ! usize (Is usize) (uint-makes 𝓤 H A W w64) (d .at) _ (refl, fits) $ fjoin ! $ move ! (2 ∷ 0 ∷ []) $ fjoin ! $
-      move ! (3 ∷ 0 ∷ []) $ use2 W (raw (Same 𝓤 H A mem run .pre to)) asked $ frame ! $ frame ! $ done !
+      move ! (3 ∷ 0 ∷ []) $ use2 W (raw (SameBytes 𝓤 H A mem run .pre to)) asked $ frame ! $ frame ! $ done !
 
   -- of the callee's `ensured`, the clause alone: it has no `&mut`, so what is said of last values is dropped
   said : (n : ℕ) → ent 𝓤 (ensured 𝓤 H A same.ended (same.clauses 𝓤 H A mem run) κs (d .text, (d .at, (w, tt))) tt n) (fact 𝓤 (n ≡ found))
@@ -122,7 +122,7 @@ module _ {M : Type 1} (𝓤 : URA M) (H : Heap 𝓤) (A : Atoms 𝓤) (W : Given
       -- [what the new struct owns; what the struct owns; what the word owns]
       nothing ! $ move ! (3 ∷ 0 ∷ []) $ fjoin ! $ move ! (2 ∷ 0 ∷ []) $ fjoin ! $ frame ! $ done !
 
-  module _ (C : Calls 𝓤 H) (Λ : Loops 𝓤 H) (fm : FmC 𝓤 H (W .laws) C) (known : Triple 𝓤 (C #same-bytess) (Same 𝓤 H A mem run)) where
+  module _ (C : Calls 𝓤 H) (Λ : Loops 𝓤 H) (fm : FmC 𝓤 H (W .laws) C) (known : Triple 𝓤 (C #same-bytess) (SameBytes 𝓤 H A mem run)) where
     -- by hand, since the parameter and the result hold a reference: the fields are copied, `same_bytes` is called, and the struct is made of the slice and the sum
     walk : Holds (hasTy (T′.mir (named 0)) (T′.lowered d)) × WT (T′.lowered d) → Is (ShrSlice (named 1) κ′ u8) w (slice w ∷ []) → ent 𝓤 (onEntry 𝓤 H A pass.signature κs qs (d, (w, tt)) at) (WpFn 𝓤 H C Λ code.function (T′.lowered d ∷ slice w ∷ []) Post)
     walk wt p =
@@ -132,8 +132,8 @@ module _ {M : Type 1} (𝓤 : URA M) (H : Heap 𝓤) (A : Atoms 𝓤) (W : Given
         assigns ! (of-opd ! (load ! (from ! (fld ! refl (stop !))) (look-in ! 14 (sub ! 1 refl (whole !))))) (from ! (stop !)) (init ! 8 refl (tt, wt .1 .1 .0)) $
         assigns ! (of-opd ! (load ! (from ! (fld ! refl (stop !))) (look-in ! 14 (sub ! 0 refl (whole !))))) (from ! (stop !)) (init ! 4 refl (tt, wt .1 .0)) $
         assigns ! (of-opd ! (load ! (from ! (fld ! refl (stop !))) (look-in ! 14 (sub ! 1 refl (whole !))))) (from ! (stop !)) (init ! 2 refl (tt, wt .1 .1 .0)) $
-        move ! (18 ∷ []) $ use1 W (raw (Same 𝓤 H A mem run .pre to) ⊛ ‵ (OwnSlice κ′ w) ⊛ ‵ (Own α d)) (apart (wt .1 .1 .0 .fits)) $ split ! $
-        calls-at ! fm (Same 𝓤 H A mem run) known to (and-then ! (load ! (from ! (stop !)) (look ! 6 refl)) (and-then ! (load ! (from ! (stop !)) (look ! 4 refl)) (and-then ! (load ! (from ! (stop !)) (look ! 14 refl)) (no-more !)))) (λ u.
+        move ! (18 ∷ []) $ use1 W (raw (SameBytes 𝓤 H A mem run .pre to) ⊛ ‵ (OwnSlice κ′ w) ⊛ ‵ (Own α d)) (apart (wt .1 .1 .0 .fits)) $ split ! $
+        calls-at ! fm (SameBytes 𝓤 H A mem run) known to (and-then ! (load ! (from ! (stop !)) (look ! 6 refl)) (and-then ! (load ! (from ! (stop !)) (look ! 4 refl)) (and-then ! (load ! (from ! (stop !)) (look ! 14 refl)) (no-more !)))) (λ u.
         use1 W (later (some (λ (n : ℕ). ((‵ (flft κ q) ⊛ ‵ (flft κ′ q′) ⊛ ‵ ftrue) ⊛ ‵ (usize .own n (u ∷ []))) ⊛ raw (ensured 𝓤 H A same.ended (same.clauses 𝓤 H A mem run) κs (d .text, (d .at, (w, tt))) tt n)))) (id⊢ 𝓤 _) $ await ! tt $ pick ! (λ n.
         split ! $ move ! (1 ∷ []) $ use1 W (raw (fact 𝓤 (n ≡ found))) (said n) $ heard ! (n ≡ found) (λ e. split ! $ move ! (1 ∷ []) $
         -- [the result; the tokens; what the word and the struct own; _8; …; _7; …; _6; …; room for _5; …; _4; …; _3; …; _2; …; _1; …; room for _0; …]
@@ -145,7 +145,7 @@ module _ {M : Type 1} (𝓤 : URA M) (H : Heap 𝓤) (A : Atoms 𝓤) (W : Given
         move ! (19 ∷ 20 ∷ []) $ free1 ! $ move ! (17 ∷ 18 ∷ []) $ free1 ! $ move ! (15 ∷ 16 ∷ []) $ free1 ! $ move ! (13 ∷ 14 ∷ []) $ free1 ! $ move ! (11 ∷ 12 ∷ []) $ free1 ! $ move ! (9 ∷ 10 ∷ []) $ free1 ! $ move ! (7 ∷ 8 ∷ []) $ free1 ! $ move ! (5 ∷ 6 ∷ []) $ free1 ! $ move ! (3 ∷ 4 ∷ []) $ free1 ! $ free0 ! $ by ! (exits n u e fits))))))))))))))
 
 module _ {M : Type 1} (𝓤 : URA M) (H : Heap 𝓤) (A : Atoms 𝓤) (W : Given 𝓤 H A) (mem : Memory → SProp 𝓤) (run : Routine → Fun 𝓤) where
-  pass-walks : (C : Calls 𝓤 H) (Λ : Loops 𝓤 H) → FmC 𝓤 H (W .laws) C → Triple 𝓤 (C #same-bytess) (Same 𝓤 H A mem run)
+  pass-walks : (C : Calls 𝓤 H) (Λ : Loops 𝓤 H) → FmC 𝓤 H (W .laws) C → Triple 𝓤 (C #same-bytess) (SameBytes 𝓤 H A mem run)
       → Walks 𝓤 H A pass.ended stayed (WpFn 𝓤 H C Λ code.function) (pass.clauses 𝓤 H A mem run)
   pass-walks C Λ fm known = walked 𝓤 H A pass.ended stayed (pass.clauses 𝓤 H A mem run) (WpFn 𝓤 H C Λ code.function) (λ κs. (LL.vals (T.the-type (namedLft 2 0 tt κs)) (T′.the-laws (namedLft 2 0 tt κs)), (slice-vals, tt))) (λ κs. (LL.tells (T.the-type (namedLft 2 0 tt κs)) (T′.the-laws (namedLft 2 0 tt κs)), (shr-slice-tells (named 1) (κs .1 .0) u8, tt)))
       (λ κs qs bounds a g are. via 𝓤 _ (fst∗ 𝓤 _ (emp 𝓤)) (walk 𝓤 H A W mem run (κs .0) (κs .1 .0) (qs .0) (qs .1 .0) (a .0) (a .1 .0) C Λ fm known (LL.lawful (T.the-type (namedLft 2 0 tt κs)) (T′.the-laws (namedLft 2 0 tt κs)) 𝓤 H A W .typed (a .0) _ (are .0) .0) (are .1 .0)))
@@ -159,4 +159,4 @@ pass-word-spec 𝓤 H 𝓜 𝓖 𝓡 =
     (tables 𝓤 H 𝓜 𝓡 code.env .C) (tables 𝓤 H 𝓜 𝓡 code.env .Λ) #pass-word code.function (code.unfolded 𝓤 H 𝓜 𝓡)
     (walk-meets 𝓤 H (𝓖 .A) pass.ended stayed W (goes-none 𝓤 H (𝓖 .A) W 2 B yes (λ κs x f. refl), (goes-none-slice 𝓤 H (𝓖 .A) W 2 (1 ∷ []) tt (plain (λ _. u8)) yes, tt)) (pass.clauses 𝓤 H (𝓖 .A) (𝓜 .mem) (𝓡 .run)) (WpFn 𝓤 H (𝓣 .C) (𝓣 .Λ) code.function) (WpFn-mono 𝓤 H (W .laws) 𝓣 code.function)
     (pass-walks 𝓤 H (𝓖 .A) W (𝓜 .mem) (𝓡 .run) (𝓣 .C) (𝓣 .Λ) (fmOf 𝓤 H (W .laws) 𝓣)
-    (cited 𝓤 H (Same 𝓤 H (𝓖 .A) (𝓜 .mem) (𝓡 .run)) 𝓜 𝓡 code.env #same-bytess same-def.routine code.calls-text·reader·same-bytes (same-thm.met 𝓤 H 𝓜 𝓖 𝓡))))
+    (cited 𝓤 H (SameBytes 𝓤 H (𝓖 .A) (𝓜 .mem) (𝓡 .run)) 𝓜 𝓡 code.env #same-bytess same-def.routine code.calls-text·reader·same-bytes (same-thm.met 𝓤 H 𝓜 𝓖 𝓡))))

@@ -65,8 +65,8 @@ stayed = (stay-none-slice (0 ∷ []) tt (plain (λ _. u8)) yes, (stay-none (λ _
 
 module _ {M : Type 1} (𝓤 : URA M) (H : Heap 𝓤) (A : Atoms 𝓤) (mem : Memory → SProp 𝓤) (run : Routine → Fun 𝓤) where
   -- the contract that the proof cites, beside that of `new`
-  abbrev Pass : Contract 𝓤
-  Pass = tripleOf 𝓤 H A pass.signature (pass.spec 𝓤 H A mem run)
+  abbrev PassByte : Contract 𝓤
+  PassByte = tripleOf 𝓤 H A pass.signature (pass.spec 𝓤 H A mem run)
 
 module _ {M : Type 1} (𝓤 : URA M) (H : Heap 𝓤) (A : Atoms 𝓤) (W : Given 𝓤 H A) (mem : Memory → SProp 𝓤) (run : Routine → Fun 𝓤) (κ : Lft) (q : Share) (s : RefT (List ℕ)) (n : ℕ) (ok : n < 2 ^ 64) (b : ℕ) (b-fits : b < 2 ^ 8) where
   abbrev found : ℕ
@@ -89,10 +89,10 @@ module _ {M : Type 1} (𝓤 : URA M) (H : Heap 𝓤) (A : Atoms 𝓤) (W : Given
       split ! $ move ! (1 ∷ []) $ drop ! $ move ! (1 ∷ []) $ fsplit ! $ move ! (1 ∷ []) $ drop ! $ move ! (1 ∷ 0 ∷ []) $ by ! (goes-new 𝓤 H A W mem run κ q s n ok)
 
   -- the call of `pass_byte`, at the struct r with the machine value u
-  abbrev to-pass : Reader → Val → Pass 𝓤 H A mem run .Ghost
+  abbrev to-pass : Reader → Val → PassByte 𝓤 H A mem run .Ghost
   to-pass r u = (((κ, tt), (q, tt), tt, (r, (b, tt)), (u ∷ [], (vint w8 b ∷ [], tt))), tt)
 
-  goes-pass : (r : Reader) (u : Val) → ent 𝓤 (⋆ 𝓤 H A (‵ (B (κ, tt) .own r (u ∷ [])) ∷ (‵ (flft κ q) ⊛ ‵ ftrue) ∷ [])) (Pass 𝓤 H A mem run .pre (to-pass r u))
+  goes-pass : (r : Reader) (u : Val) → ent 𝓤 (⋆ 𝓤 H A (‵ (B (κ, tt) .own r (u ∷ [])) ∷ (‵ (flft κ q) ⊛ ‵ ftrue) ∷ [])) (PassByte 𝓤 H A mem run .pre (to-pass r u))
   goes-pass r u =
       qed W (‵ (B (κ, tt) .own r (u ∷ [])) ∷ (‵ (flft κ q) ⊛ ‵ ftrue) ∷ []) ∵
       nothing ! $ owned ! u8 (Is u8) (uint-makes 𝓤 H A W w8) b _ (refl, b-fits) $ fjoin ! $ move ! (1 ∷ 0 ∷ []) $ fjoin ! $ move ! (1 ∷ 0 ∷ []) $ join ! $ frame ! $ done !
@@ -111,7 +111,7 @@ module _ {M : Type 1} (𝓤 : URA M) (H : Heap 𝓤) (A : Atoms 𝓤) (W : Given
       drop ! $ frame ! $ nothing ! $ owned ! u8 (Is u8) (uint-makes 𝓤 H A W w8) b _ (refl, b-fits) $ fjoin ! $ owned ! usize (Is usize) (uint-makes 𝓤 H A W w64) n _ (refl, ok) $ fjoin ! $ move ! (1 ∷ 0 ∷ []) $ fjoin ! $ frame ! $
       owned ! usize (Is usize) (uint-makes 𝓤 H A W w64) (t .at) _ (refl, fits) $ done !
 
-  module _ (C : Calls 𝓤 H) (Λ : Loops 𝓤 H) (fm : FmC 𝓤 H (W .laws) C) (known-new : Triple 𝓤 (C #new) (New 𝓤 H A mem run)) (known-pass : Triple 𝓤 (C #pass-byte) (Pass 𝓤 H A mem run)) where
+  module _ (C : Calls 𝓤 H) (Λ : Loops 𝓤 H) (fm : FmC 𝓤 H (W .laws) C) (known-new : Triple 𝓤 (C #new) (New 𝓤 H A mem run)) (known-pass : Triple 𝓤 (C #pass-byte) (PassByte 𝓤 H A mem run)) where
     -- by hand, since two locals hold a reference: what `new` returns is stored and passed on, and a field is read of what comes back
     walk : Is (ShrSlice (named 0) κ u8) s (slice s ∷ []) → ent 𝓤 (onEntry 𝓤 H A comes.signature (κ, tt) (q, tt) (s, (n, (b, tt))) at) (WpFn 𝓤 H C Λ code.function (slice s ∷ vint w64 n ∷ vint w8 b ∷ []) Post)
     walk p =
@@ -124,8 +124,8 @@ module _ {M : Type 1} (𝓤 : URA M) (H : Heap 𝓤) (A : Atoms 𝓤) (W : Given
         -- [what the struct owns; the token; what s owns; room for _5; …; room for _4; …; _3; …; _2; …; _1; …; room for _0; …]
         peeks ! (B (κ, tt)) (Is (B (κ, tt))) (shows 𝓤 H A (B (κ, tt))) r (u ∷ []) (λ is.
         land ! (from ! (stop !)) (init ! 3 refl (LL.lawful (T.the-type αᵉ) (T′.the-laws αᵉ) 𝓤 H A W .typed r _ is .0)) $
-        use2 W (raw (Pass 𝓤 H A mem run .pre (to-pass r u))) (goes-pass r u) $
-        calls-at ! fm (Pass 𝓤 H A mem run) known-pass (to-pass r u) (and-then ! (load ! (from ! (stop !)) (look ! 2 refl)) (and-then ! (load ! (from ! (stop !)) (look ! 6 refl)) (no-more !))) (λ u′.
+        use2 W (raw (PassByte 𝓤 H A mem run .pre (to-pass r u))) (goes-pass r u) $
+        calls-at ! fm (PassByte 𝓤 H A mem run) known-pass (to-pass r u) (and-then ! (load ! (from ! (stop !)) (look ! 2 refl)) (and-then ! (load ! (from ! (stop !)) (look ! 6 refl)) (no-more !))) (λ u′.
         use1 W (later (some (λ (t : Reader). ((‵ (flft κ q) ⊛ ‵ ftrue) ⊛ ‵ (B (κ, tt) .own t (u′ ∷ []))) ⊛ raw (ensured 𝓤 H A pass.ended (pass.clauses 𝓤 H A mem run) (κ, tt) (r, (b, tt)) tt t)))) (id⊢ 𝓤 _) $ await ! tt $ pick ! (λ t.
         split ! $ move ! (1 ∷ []) $ use1 W (raw (fact 𝓤 (Passed r t))) (pass-said r t) $ heard ! (Passed r t) (λ e′. split ! $ move ! (1 ∷ []) $
         -- [what the struct moved owns; the token; what s owns; _5; …; room for _4; …; _3; …; _2; …; _1; …; room for _0; …]
@@ -137,7 +137,7 @@ module _ {M : Type 1} (𝓤 : URA M) (H : Heap 𝓤) (A : Atoms 𝓤) (W : Given
         by ! (exits t u′ (e′ .1 ∙ (ap (λ (x : RefT (List ℕ)). past (now x) (r .at) (b ∷ [])) (e .0) ∙ ap (λ (k : ℕ). past (now s) k (b ∷ [])) (e .1))) fits)))))))))))))))
 
 module _ {M : Type 1} (𝓤 : URA M) (H : Heap 𝓤) (A : Atoms 𝓤) (W : Given 𝓤 H A) (mem : Memory → SProp 𝓤) (run : Routine → Fun 𝓤) where
-  past-walks : (C : Calls 𝓤 H) (Λ : Loops 𝓤 H) → FmC 𝓤 H (W .laws) C → Triple 𝓤 (C #new) (New 𝓤 H A mem run) → Triple 𝓤 (C #pass-byte) (Pass 𝓤 H A mem run)
+  past-walks : (C : Calls 𝓤 H) (Λ : Loops 𝓤 H) → FmC 𝓤 H (W .laws) C → Triple 𝓤 (C #new) (New 𝓤 H A mem run) → Triple 𝓤 (C #pass-byte) (PassByte 𝓤 H A mem run)
       → Walks 𝓤 H A comes.ended stayed (WpFn 𝓤 H C Λ code.function) (comes.clauses 𝓤 H A mem run)
   past-walks C Λ fm known-new known-pass = walked 𝓤 H A comes.ended stayed (comes.clauses 𝓤 H A mem run) (WpFn 𝓤 H C Λ code.function) (λ κs. (slice-vals, (uint-vals w64, (uint-vals w8, tt)))) (λ κs. (shr-slice-tells (named 0) (κs .0) u8, (uint-tells w64, (uint-tells w8, tt))))
       (λ κs qs bounds a g are. via 𝓤 _ (fst∗ 𝓤 _ (emp 𝓤)) (walk 𝓤 H A W mem run (κs .0) (qs .0) (a .0) (a .1 .0) (are .1 .0 .1) (a .1 .1 .0) (are .1 .1 .0 .1) C Λ fm known-new known-pass (are .0)))
@@ -152,4 +152,4 @@ past-byte-spec 𝓤 H 𝓜 𝓖 𝓡 =
     (walk-meets 𝓤 H (𝓖 .A) comes.ended stayed W (goes-none-slice 𝓤 H (𝓖 .A) W 1 (0 ∷ []) tt (plain (λ _. u8)) yes, (goes-none 𝓤 H (𝓖 .A) W 1 (λ _. usize) yes (λ κs x f. refl), (goes-none 𝓤 H (𝓖 .A) W 1 (λ _. u8) yes (λ κs x f. refl), tt))) (comes.clauses 𝓤 H (𝓖 .A) (𝓜 .mem) (𝓡 .run)) (WpFn 𝓤 H (𝓣 .C) (𝓣 .Λ) code.function) (WpFn-mono 𝓤 H (W .laws) 𝓣 code.function)
     (past-walks 𝓤 H (𝓖 .A) W (𝓜 .mem) (𝓡 .run) (𝓣 .C) (𝓣 .Λ) (fmOf 𝓤 H (W .laws) 𝓣)
     (cited 𝓤 H (New 𝓤 H (𝓖 .A) (𝓜 .mem) (𝓡 .run)) 𝓜 𝓡 code.env #new new-def.routine code.calls-text·reader·new (new-thm.met 𝓤 H 𝓜 𝓖 𝓡))
-    (cited 𝓤 H (Pass 𝓤 H (𝓖 .A) (𝓜 .mem) (𝓡 .run)) 𝓜 𝓡 code.env #pass-byte pass-def.routine code.calls-text·reader·pass-byte (pass-thm.met 𝓤 H 𝓜 𝓖 𝓡))))
+    (cited 𝓤 H (PassByte 𝓤 H (𝓖 .A) (𝓜 .mem) (𝓡 .run)) 𝓜 𝓡 code.env #pass-byte pass-def.routine code.calls-text·reader·pass-byte (pass-thm.met 𝓤 H 𝓜 𝓖 𝓡))))

@@ -65,8 +65,8 @@ stayed = (stay-none-slice (0 ∷ []) tt (plain (λ _. u8)) yes, (stay-none (λ _
 
 module _ {M : Type 1} (𝓤 : URA M) (H : Heap 𝓤) (A : Atoms 𝓤) (mem : Memory → SProp 𝓤) (run : Routine → Fun 𝓤) where
   -- the contract that the proof cites, beside that of `new`
-  abbrev Pass : Contract 𝓤
-  Pass = tripleOf 𝓤 H A pass.signature (pass.spec 𝓤 H A mem run)
+  abbrev PassWord : Contract 𝓤
+  PassWord = tripleOf 𝓤 H A pass.signature (pass.spec 𝓤 H A mem run)
 
 module _ {M : Type 1} (𝓤 : URA M) (H : Heap 𝓤) (A : Atoms 𝓤) (W : Given 𝓤 H A) (mem : Memory → SProp 𝓤) (run : Routine → Fun 𝓤) (κ κ′ : Lft) (q q′ : Share) (s : RefT (List ℕ)) (n : ℕ) (ok : n < 2 ^ 64) (w : RefT (List ℕ)) where
   abbrev κs : Lfts 2
@@ -97,17 +97,17 @@ module _ {M : Type 1} (𝓤 : URA M) (H : Heap 𝓤) (A : Atoms 𝓤) (W : Given
       move ! (3 ∷ 1 ∷ []) $ use2 W (raw (New 𝓤 H A mem run .pre (to-new 𝓤 H A mem run κ q s n)) ⊛ ‵ (OwnSlice κ s)) (goes-new 𝓤 H A W mem run κ q s n ok) $ split ! $ frame ! $ frame ! $ frame ! $ done !
 
   -- the call of `pass_word`, at the struct r with the machine value u
-  abbrev to-pass : Reader → Val → Pass 𝓤 H A mem run .Ghost
+  abbrev to-pass : Reader → Val → PassWord 𝓤 H A mem run .Ghost
   to-pass r u = ((κs, qs, tt, (r, (w, tt)), (u ∷ [], (slice w ∷ [], tt))), tt)
 
-  goes-pass : (r : Reader) (u : Val) → ent 𝓤 (⋆ 𝓤 H A (‵ (B κs .own r (u ∷ [])) ∷ (‵ (flft κ q) ⊛ ‵ ftrue) ∷ (‵ (OwnSlice κ s) ⊛ ‵ (OwnSlice κ′ w) ⊛ ‵ (flft κ′ q′)) ∷ [])) (sep 𝓤 (Pass 𝓤 H A mem run .pre (to-pass r u)) (sep 𝓤 (sem 𝓤 H A (OwnSlice κ s)) (sem 𝓤 H A (OwnSlice κ′ w))))
+  goes-pass : (r : Reader) (u : Val) → ent 𝓤 (⋆ 𝓤 H A (‵ (B κs .own r (u ∷ [])) ∷ (‵ (flft κ q) ⊛ ‵ ftrue) ∷ (‵ (OwnSlice κ s) ⊛ ‵ (OwnSlice κ′ w) ⊛ ‵ (flft κ′ q′)) ∷ [])) (sep 𝓤 (PassWord 𝓤 H A mem run .pre (to-pass r u)) (sep 𝓤 (sem 𝓤 H A (OwnSlice κ s)) (sem 𝓤 H A (OwnSlice κ′ w))))
   goes-pass r u =
       qed W (‵ (B κs .own r (u ∷ [])) ∷ (‵ (flft κ q) ⊛ ‵ ftrue) ∷ (‵ (OwnSlice κ s) ⊛ ‵ (OwnSlice κ′ w) ⊛ ‵ (flft κ′ q′)) ∷ []) ∵
       move ! (2 ∷ []) $ split ! $ move ! (1 ∷ []) $ split ! $ use1 W (‵ (OwnSlice κ′ w) ⊛ ‵ (OwnSlice κ′ w)) (shr-slice-copy 𝓤 H A W (named 1) κ′ u8 .twice w (slice w ∷ [])) $ split ! $
       -- [what the word owns; the same; its token; what s owns; what the struct owns; s's token]
       nothing ! $ move ! (1 ∷ 0 ∷ []) $ fjoin ! $ move ! (4 ∷ 0 ∷ []) $ fjoin ! $ move ! (4 ∷ []) $ split ! $ move ! (4 ∷ 1 ∷ []) $ join ! $ move ! (1 ∷ 0 ∷ []) $ join ! $
       -- [the tokens; what the struct and the word own; what the word owns; what s owns]
-      use2 W (raw (Pass 𝓤 H A mem run .pre (to-pass r u))) (qed W ((‵ (flft κ q) ⊛ ‵ (flft κ′ q′) ⊛ ‵ ftrue) ∷ ‵ (owns (B κs ∷ ShrSlice (named 1) κ′ u8 ∷ []) (r, (w, tt)) (u ∷ [], (slice w ∷ [], tt))) ∷ []) ∵ join ! $ frame ! $ done !) $ frame ! $ move ! (1 ∷ 0 ∷ []) $ frame ! $ done !
+      use2 W (raw (PassWord 𝓤 H A mem run .pre (to-pass r u))) (qed W ((‵ (flft κ q) ⊛ ‵ (flft κ′ q′) ⊛ ‵ ftrue) ∷ ‵ (owns (B κs ∷ ShrSlice (named 1) κ′ u8 ∷ []) (r, (w, tt)) (u ∷ [], (slice w ∷ [], tt))) ∷ []) ∵ join ! $ frame ! $ done !) $ frame ! $ move ! (1 ∷ 0 ∷ []) $ frame ! $ done !
 
   -- what it says of its result
   abbrev Passed : Reader → Reader → Type 0
@@ -123,7 +123,7 @@ module _ {M : Type 1} (𝓤 : URA M) (H : Heap 𝓤) (A : Atoms 𝓤) (W : Given
       drop ! $ frame ! $ split ! $ nothing ! $ move ! (2 ∷ 0 ∷ []) $ fjoin ! $ owned ! usize (Is usize) (uint-makes 𝓤 H A W w64) n _ (refl, ok) $ fjoin ! $ move ! (1 ∷ 0 ∷ []) $ fjoin ! $ frame ! $
       owned ! usize (Is usize) (uint-makes 𝓤 H A W w64) (t .at) _ (refl, fits) $ done !
 
-  module _ (C : Calls 𝓤 H) (Λ : Loops 𝓤 H) (fm : FmC 𝓤 H (W .laws) C) (known-new : Triple 𝓤 (C #new) (New 𝓤 H A mem run)) (known-pass : Triple 𝓤 (C #pass-word) (Pass 𝓤 H A mem run)) where
+  module _ (C : Calls 𝓤 H) (Λ : Loops 𝓤 H) (fm : FmC 𝓤 H (W .laws) C) (known-new : Triple 𝓤 (C #new) (New 𝓤 H A mem run)) (known-pass : Triple 𝓤 (C #pass-word) (PassWord 𝓤 H A mem run)) where
     -- by hand, since two locals hold a reference: what `new` returns is stored and passed on, and a field is read of what comes back
     walk : Is (ShrSlice (named 0) κ u8) s (slice s ∷ []) → Is (ShrSlice (named 1) κ′ u8) w (slice w ∷ []) → ent 𝓤 (onEntry 𝓤 H A comes.signature κs qs (s, (n, (w, tt))) at) (WpFn 𝓤 H C Λ code.function (slice s ∷ vint w64 n ∷ slice w ∷ []) Post)
     walk p p′ =
@@ -136,8 +136,8 @@ module _ {M : Type 1} (𝓤 : URA M) (H : Heap 𝓤) (A : Atoms 𝓤) (W : Given
         -- [what the struct owns; s's token; what s and the word own, and the word's token; room for _5; …; room for _4; …; _3; …; _2; …; _1; …; room for _0; …]
         peeks ! (B κs) (Is (B κs)) (shows 𝓤 H A (B κs)) r (u ∷ []) (λ is.
         land ! (from ! (stop !)) (init ! 3 refl (LL.lawful (T.the-type αᵉ) (T′.the-laws αᵉ) 𝓤 H A W .typed r _ is .0)) $
-        use3 W (raw (Pass 𝓤 H A mem run .pre (to-pass r u)) ⊛ ‵ (OwnSlice κ s) ⊛ ‵ (OwnSlice κ′ w)) (goes-pass r u) $ split ! $
-        calls-at ! fm (Pass 𝓤 H A mem run) known-pass (to-pass r u) (and-then ! (load ! (from ! (stop !)) (look ! 2 refl)) (and-then ! (load ! (from ! (stop !)) (look ! 6 refl)) (no-more !))) (λ u′.
+        use3 W (raw (PassWord 𝓤 H A mem run .pre (to-pass r u)) ⊛ ‵ (OwnSlice κ s) ⊛ ‵ (OwnSlice κ′ w)) (goes-pass r u) $ split ! $
+        calls-at ! fm (PassWord 𝓤 H A mem run) known-pass (to-pass r u) (and-then ! (load ! (from ! (stop !)) (look ! 2 refl)) (and-then ! (load ! (from ! (stop !)) (look ! 6 refl)) (no-more !))) (λ u′.
         use1 W (later (some (λ (t : Reader). ((‵ (flft κ q) ⊛ ‵ (flft κ′ q′) ⊛ ‵ ftrue) ⊛ ‵ (B κs .own t (u′ ∷ []))) ⊛ raw (ensured 𝓤 H A pass.ended (pass.clauses 𝓤 H A mem run) κs (r, (w, tt)) tt t)))) (id⊢ 𝓤 _) $ await ! tt $ pick ! (λ t.
         split ! $ move ! (1 ∷ []) $ use1 W (raw (fact 𝓤 (Passed r t))) (pass-said r t) $ heard ! (Passed r t) (λ e′. split ! $ move ! (1 ∷ []) $
         -- [what the struct moved owns; the tokens; what s and the word own; _5; …; room for _4; …; _3; …; _2; …; _1; …; room for _0; …]
@@ -149,7 +149,7 @@ module _ {M : Type 1} (𝓤 : URA M) (H : Heap 𝓤) (A : Atoms 𝓤) (W : Given
         by ! (exits t u′ (e′ .1 ∙ (ap (λ (x : RefT (List ℕ)). past (now x) (r .at) (now w)) (e .0) ∙ ap (λ (k : ℕ). past (now s) k (now w)) (e .1))) fits)))))))))))))))
 
 module _ {M : Type 1} (𝓤 : URA M) (H : Heap 𝓤) (A : Atoms 𝓤) (W : Given 𝓤 H A) (mem : Memory → SProp 𝓤) (run : Routine → Fun 𝓤) where
-  past-walks : (C : Calls 𝓤 H) (Λ : Loops 𝓤 H) → FmC 𝓤 H (W .laws) C → Triple 𝓤 (C #new) (New 𝓤 H A mem run) → Triple 𝓤 (C #pass-word) (Pass 𝓤 H A mem run)
+  past-walks : (C : Calls 𝓤 H) (Λ : Loops 𝓤 H) → FmC 𝓤 H (W .laws) C → Triple 𝓤 (C #new) (New 𝓤 H A mem run) → Triple 𝓤 (C #pass-word) (PassWord 𝓤 H A mem run)
       → Walks 𝓤 H A comes.ended stayed (WpFn 𝓤 H C Λ code.function) (comes.clauses 𝓤 H A mem run)
   past-walks C Λ fm known-new known-pass = walked 𝓤 H A comes.ended stayed (comes.clauses 𝓤 H A mem run) (WpFn 𝓤 H C Λ code.function) (λ κs. (slice-vals, (uint-vals w64, (slice-vals, tt)))) (λ κs. (shr-slice-tells (named 0) (κs .0) u8, (uint-tells w64, (shr-slice-tells (named 1) (κs .1 .0) u8, tt))))
       (λ κs qs bounds a g are. via 𝓤 _ (fst∗ 𝓤 _ (emp 𝓤)) (walk 𝓤 H A W mem run (κs .0) (κs .1 .0) (qs .0) (qs .1 .0) (a .0) (a .1 .0) (are .1 .0 .1) (a .1 .1 .0) C Λ fm known-new known-pass (are .0) (are .1 .1 .0)))
@@ -164,4 +164,4 @@ past-word-spec 𝓤 H 𝓜 𝓖 𝓡 =
     (walk-meets 𝓤 H (𝓖 .A) comes.ended stayed W (goes-none-slice 𝓤 H (𝓖 .A) W 2 (0 ∷ []) tt (plain (λ _. u8)) yes, (goes-none 𝓤 H (𝓖 .A) W 2 (λ _. usize) yes (λ κs x f. refl), (goes-none-slice 𝓤 H (𝓖 .A) W 2 (1 ∷ []) tt (plain (λ _. u8)) yes, tt))) (comes.clauses 𝓤 H (𝓖 .A) (𝓜 .mem) (𝓡 .run)) (WpFn 𝓤 H (𝓣 .C) (𝓣 .Λ) code.function) (WpFn-mono 𝓤 H (W .laws) 𝓣 code.function)
     (past-walks 𝓤 H (𝓖 .A) W (𝓜 .mem) (𝓡 .run) (𝓣 .C) (𝓣 .Λ) (fmOf 𝓤 H (W .laws) 𝓣)
     (cited 𝓤 H (New 𝓤 H (𝓖 .A) (𝓜 .mem) (𝓡 .run)) 𝓜 𝓡 code.env #new new-def.routine code.calls-text·reader·new (new-thm.met 𝓤 H 𝓜 𝓖 𝓡))
-    (cited 𝓤 H (Pass 𝓤 H (𝓖 .A) (𝓜 .mem) (𝓡 .run)) 𝓜 𝓡 code.env #pass-word pass-def.routine code.calls-text·reader·pass-word (pass-thm.met 𝓤 H 𝓜 𝓖 𝓡))))
+    (cited 𝓤 H (PassWord 𝓤 H (𝓖 .A) (𝓜 .mem) (𝓡 .run)) 𝓜 𝓡 code.env #pass-word pass-def.routine code.calls-text·reader·pass-word (pass-thm.met 𝓤 H 𝓜 𝓖 𝓡))))
