@@ -1,3 +1,5 @@
+-- `formula::factor`, `and_level` and `or_level` meet their contracts. Each call in the cycle has a lesser measure: three times the depth, and 0, 1 or 2 by the level.
+-- A loop's invariant is that what is read so far is a formula of its level; each turn reads an operand further, so fewer bytes are left.
 use Prim.Native.Nat.{ℕ, _+_, _-_, _*_, _<_}
 use lib.ListN.{length}
 use borrow.Author.Tests.{not-true, not-false}

@@ -1,3 +1,4 @@
+-- `formula::atom` meets its contract: after `s` and after `f` a number is read, whose point is the switch's or comes after all switches; with `!` and `(` ruled out, no other byte begins an operand.
 use mathlib.Core.Path.{refl, sym, _∙_}
 use native.Mathlib.Omega.{arith}
 use denote.Ref.{now}

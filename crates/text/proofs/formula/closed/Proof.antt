@@ -1,5 +1,4 @@
 -- `formula::closed` meets its contract: from the next significant place the place has moved past a bracket exactly where one stands there.
--- Assumes nothing.
 use Prim.Native.Char.{code}
 use mathlib.Core.Path.{ap, sym, _∙_}
 use native.Mathlib.Omega.{arith}

@@ -1,5 +1,4 @@
 -- `formula::fed` meets its contract: the place has moved past a line feed exactly where one stands there.
--- Assumes nothing.
 use Prim.Native.Char.{code}
 use mathlib.Core.Path.{_∙_}
 use native.Mathlib.Omega.{arith}

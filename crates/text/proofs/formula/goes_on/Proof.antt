@@ -1,3 +1,4 @@
+-- `formula::goes_on` meets its contract: after a bad formula no sign comes, and else the byte at the next significant place is compared.
 use Rattle.text.specs.Look.{look}
 use Rattle.text.specs.Formulas.{goesOn}
 use borrow.Author.Needs.{needs}

@@ -1,3 +1,4 @@
+-- `formula::operand_at` meets its contract: the sign stands in the text, so the place after it is a number, and from there one space is skipped.
 use native.Mathlib.Omega.{arith}
 use denote.Ref.{now}
 use Rattle.text.specs.Look.{skip}

@@ -1,3 +1,4 @@
+-- `formula::or_gate` meets its contract: the first operand is handed on as it is, and each later one gets the gate that `with_gate` adds.
 use mathlib.Core.Path.{refl}
 use Rattle.scope.specs.laws.Tests.{clash}
 use borrow.Author.Needs.{needs}

@@ -1,3 +1,4 @@
+-- `formula::with_gate` meets its contract: a bad formula stays as it is, a gate for which there is no room is only counted, and any other is put after the gates that are held.
 use mathlib.Core.Path.{refl}
 use Rattle.scope.specs.Sheet.{sheet}
 use mathlib.Core.List.{[]}

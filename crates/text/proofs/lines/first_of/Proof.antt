@@ -1,3 +1,4 @@
+-- `lines::first_of` meets its contract: a fault of an earlier line stays the first, and after none the line's own is the first, if it has one.
 use Rattle.text.specs.laws.Lines.{faulted-before, faulted-here}
 use Rattle.text.proofs.lines.first_of.Statement.{statement}
 use Rattle.text.proofs.lines.first_of.Tie as tie

@@ -1,3 +1,4 @@
+-- `lines::goes_on` meets its contract: after bad lines none comes, and else the byte at their end is compared.
 use Rattle.text.specs.Lines.{goesOnWith}
 use borrow.Author.Needs.{needs}
 use Rattle.text.proofs.lines.goes_on.Statement.{statement}

@@ -1,3 +1,4 @@
+-- `rule::keep_rule` meets its contract: a rule for which there is no room is only counted, and any other is put after the rules that are held.
 use mathlib.Core.List.{[]}
 use mathlib.Core.Path.{refl}
 use Rattle.scope.specs.laws.Fields.{length-snoc}

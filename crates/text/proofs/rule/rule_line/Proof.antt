@@ -1,3 +1,4 @@
+-- `rule::rule_line` meets its contract: the word, the formula and the line feed are read in turn: where one is bad no legal text goes on, and after the last one more rule is told.
 use native.Mathlib.Omega.{arith}
 use Rattle.text.specs.laws.Lines.{rule-word-bad, rule-asked, rule-bad, rule-good}
 use borrow.Author.Needs.{needs}

@@ -1,3 +1,4 @@
+-- `rule::rule_lines` meets its contract: the loop's invariant is that the lines so far are read; a further line begins with the letter of a rule and ends at a later place, so less of the text is left.
 use mathlib.Core.Path.{sym, _∙_}
 use Rattle.scope.specs.laws.Tests.{clash}
 use Rattle.text.specs.Lines.{RulesRead, linesLeft}

@@ -1,3 +1,4 @@
+-- `rule::with_rule` meets its contract: the number that the two rows give is the line's own fault, which `first_of` takes if no earlier line has one.
 use mathlib.Core.Path.{refl, ap₂, _∙_}
 use native.Mathlib.Omega.{arith}
 use Rattle.sheet.specs.Steps.{rowOf}

@@ -1,3 +1,4 @@
+-- `whole::head_lines` meets its contract: the faults of the two lines go through `first_of` one after the other, from none.
 use mathlib.Core.Path.{refl}
 use Rattle.text.specs.laws.Lines.{head-fault}
 use borrow.Author.Needs.{needs}

@@ -1,3 +1,4 @@
+-- `whole::read` meets its contract: a text that is too long is refused in code and definition alike, and any other is left to `read_lines`.
 use mathlib.Core.Path.{_∙_}
 use Rattle.text.specs.laws.Texts.{read-long}
 use borrow.Author.Needs.{needs}

@@ -1,3 +1,4 @@
+-- `whole::read_lines` meets its contract: where a step is bad, or bytes are left after the last line, the walk over the text is stuck at that place; else it ends with the sheet that is told, whose first fault is the refusal and whose tables are the columns.
 use mathlib.Core.Path.{refl, _∙_}
 use native.Mathlib.Omega.{arith}
 use Rattle.text.specs.laws.Texts.{read-stuck, rules-begin, wishes-begin, bytes-left, fault-told, tables-told}

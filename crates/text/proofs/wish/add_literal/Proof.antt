@@ -1,5 +1,4 @@
 -- `wish::add_literal` meets its contract: the name is read from the place past the `!`, which has moved exactly where a `!` stands.
--- Assumes nothing.
 use Prim.Native.Char.{code}
 use mathlib.Core.List.{[], _∷_}
 use native.Mathlib.Omega.{arith}

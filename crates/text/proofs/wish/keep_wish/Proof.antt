@@ -1,3 +1,4 @@
+-- `wish::keep_wish` meets its contract: a wish for which there is no room is only counted, and any other is put after the wishes that are held.
 use mathlib.Core.List.{[]}
 use mathlib.Core.Path.{refl}
 use denote.Ref.{now}

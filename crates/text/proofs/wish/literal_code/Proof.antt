@@ -1,3 +1,4 @@
+-- `wish::literal_code` meets its contract: the two signs are the two cases of the definition.
 use borrow.Author.Needs.{needs}
 use Rattle.text.proofs.wish.literal_code.Statement.{statement}
 use Rattle.text.proofs.wish.literal_code.Tie as tie

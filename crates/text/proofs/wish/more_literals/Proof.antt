@@ -1,3 +1,4 @@
+-- `wish::more_literals` meets its contract: the three tests are those of the definition, in its order.
 use borrow.Author.Tests.{lt-ltb, le-ltb}
 use Rattle.scope.specs.Sheet.{mostLiterals}
 use Rattle.text.specs.Lines.{moreLiterals}

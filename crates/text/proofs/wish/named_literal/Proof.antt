@@ -1,3 +1,4 @@
+-- `wish::named_literal` meets its contract: a bad name is no literal, and the number of a good one, with the sign, is the literal that is added.
 use denote.Ref.{now}
 use Rattle.text.specs.laws.Wishes.{no-literal, named-literal}
 use borrow.Author.Needs.{needs}

@@ -1,3 +1,4 @@
+-- `wish::wish_line` meets its contract: the word, the literals and the line feed are read in turn: where one is bad no legal text goes on, and after the last one more wish is told.
 use mathlib.Core.Path.{sym, _∙_}
 use denote.Ref.{now}
 use Rattle.scope.specs.Parsing.{start}

@@ -1,3 +1,4 @@
+-- `wish::wish_lines` meets its contract: the loop's invariant is that the lines so far are read, whatever rules stand before them; a further line begins with the letter of a wish and ends at a later place, so less of the text is left.
 use mathlib.Core.Path.{sym, _∙_}
 use denote.Ref.{now}
 use Rattle.text.specs.Lines.{linesLeft, wishLetter, WishLinesRead}

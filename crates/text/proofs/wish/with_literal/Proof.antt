@@ -1,3 +1,4 @@
+-- `wish::with_literal` meets its contract: the count says which of the three places the literal takes, and the other two stay.
 use native.Mathlib.Omega.{arith}
 use Rattle.text.specs.laws.Wishes.{first-literal, second-literal, third-literal}
 use borrow.Author.Needs.{needs}

@@ -1,3 +1,4 @@
+-- `wish::with_wish` meets its contract: the number that the two rows give is the line's own fault, which `first_of` takes if no earlier line has one.
 use mathlib.Core.Path.{refl}
 use native.Mathlib.Omega.{arith}
 use borrow.Author.Needs.{needs}

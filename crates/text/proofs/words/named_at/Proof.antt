@@ -1,3 +1,4 @@
+-- `words::named_at` meets its contract: where the word is bad both are, and else the walk comes past the word and goes on as over the number.
 use Rattle.scope.specs.Parsing.{start}
 use Rattle.text.specs.laws.Words.{named-bad, named-good}
 use borrow.Author.Needs.{needs}

@@ -1,3 +1,4 @@
+-- `words::number_at` meets its contract: each return is one case of the two bytes: a zero, which is a number or not; no digit; one digit with none after it; two digits.
 use denote.Ref.{now}
 use mathlib.Core.Logic.{inl, inr}
 use mathlib.Core.Path.{refl, sym, _∙_}

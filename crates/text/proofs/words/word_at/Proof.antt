@@ -1,5 +1,4 @@
 -- `words::word_at` meets its contract: the word is read where as many bytes were passed as it has, and otherwise no legal text goes on at the place come to.
--- Assumes nothing.
 use mathlib.Core.Path.{refl, _∙_}
 use native.Mathlib.Omega.{arith}
 use denote.Ref.{now}
