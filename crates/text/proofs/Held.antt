@@ -1,4 +1,5 @@
 -- What the walks over a `Reader` share. The struct holds a `&` alone, so it is Copy, and what it owns is had as often as it is asked for: what its text owns stands beside the whole, and a second one with another number beside the first.
+--     slice, OwnSlice  the machine value of a slice, and what it owns for a lifetime
 --     Own              what a struct owns
 --     with-text        what its text owns, beside that
 --     with-moved       what the struct with another number owns, beside that
