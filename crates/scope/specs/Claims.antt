@@ -1,36 +1,39 @@
 -- What is claimed of the definitions, each claim with its proof. Assumes nothing.
 use Prim.Native.Nat.{ℕ, _+_, _-_, _≤_, _<_}
+use native.Mathlib.Omega.{arith}
 use mathlib.Core.Bool.{true, false, cond}
 use mathlib.Core.List.{List, [], _∷_, _++_, map, List·Memᴰ, Perm}
 use mathlib.Core.Logic.{_↔_, _≢_}
 use mathlib.Core.Option.{none, some}
-use mathlib.Core.Path.{_≡_, refl, sym, ap, _∙_}
+use mathlib.Core.Path.{_≡_, sym}
 use Rattle.scope.specs.Sheet.{Number, number, field, fits, Line, Clause, Gate, Sheet, sheet, sheetBytes, fieldCount, All, Valid}
-use Rattle.scope.specs.Reading.{fieldOf, lineOf, columnOf, Read, accepted, refused, lineSize, read}
-use Rattle.scope.specs.Causes.{Printed, Begins, Met, Cause, SheetRefusal}
-use Rattle.scope.specs.Source.{Source}
+use Rattle.scope.specs.Causes.{Read, accepted, refused, lineSize, Met}
+use Rattle.scope.specs.Sheets.{Printed, Begins, SheetRead, SheetRefusal}
+use Rattle.scope.specs.Sheets as sheets
+use Rattle.scope.specs.Reading.{fieldOf, lineOf, columnOf, read}
+use Rattle.scope.specs.Source.{Source, Gives, Form, ReadFrom}
 use lib.ListN.{length, getD, take}
-use Rattle.scope.specs.Meaning.{all, any, plans, patterns, literalTrue, switchOn, faultOn, truth, passes, kept, cost}
-use Rattle.scope.specs.Typed.{Typed, Legal, formulaTrue, sheetOf, lineRows}
-use Rattle.scope.specs.Texts.{TextRead}
+use Rattle.scope.specs.Meaning.{all, any, plans, patterns, literalTrue, switchOn, faultOn, truth, passes, kept, cost, costs}
+use Rattle.scope.specs.Typed.{Typed, Legal, formulaTrue, sheetOf, lineTests}
+use Rattle.scope.specs.Texts.{TextRead, TextRefusal}
 use Rattle.scope.specs.Parsing.{readText}
 use Rattle.scope.specs.Tables.{Tables, Holds}
-use Rattle.scope.specs.Writing.{TablesRefusal, TablesRead, readTables, written, write}
+use Rattle.scope.specs.Writing.{TablesRefusal, TablesRead, WriteResult, written, IsWritten}
+use Rattle.scope.specs.Checking.{readTables}
 use Rattle.scope.specs.Writing as writing
-use Rattle.scope.specs.Jobs.{over, task, answerOf, shortOf, ratingOf}
-use Rattle.scope.specs.Demands.{list, Demand2, Demand3, ShortRun, Rates}
+use Rattle.scope.specs.Pick.{Better}
+use Rattle.scope.specs.Rule.{Verdict, best, whole}
+use Rattle.scope.specs.Jobs.{over, task, Result, Answer, answerOf, IsAnswer, shortOf, IsShortRun, Rating, ratingOf, IsRating}
+use Rattle.scope.specs.Demands.{list, listed, Ending, Demand1, Demand2, Demand3, ShortRun, Rates}
 use Rattle.scope.specs.Program.{outputRows}
+use Rattle.scope.specs.laws.Given as given
 use Rattle.scope.specs.laws.Fields as fields
 use Rattle.scope.specs.laws.Lines as lines
 use Rattle.scope.specs.laws.Beginnings as beginnings
-use Rattle.scope.specs.laws.Refusals as refusals
 use Rattle.scope.specs.laws.Inverse as inverse
-use Rattle.scope.specs.laws.Sources as sources
+use Rattle.scope.specs.laws.SheetReads as sheetReads
 use Rattle.scope.specs.laws.Wishes as wishes
-use Rattle.scope.specs.laws.Wishes.{costs}
-use Rattle.scope.specs.laws.Picks.{Before}
 use Rattle.scope.specs.laws.Rules as rules
-use Rattle.scope.specs.laws.Rules.{lead}
 use Rattle.scope.specs.laws.Demands as demands
 use Rattle.scope.specs.laws.Outputs as outputs
 use Rattle.scope.specs.laws.TextReads as textReads
@@ -38,6 +41,7 @@ use Rattle.scope.specs.laws.Walked as walked
 use Rattle.scope.specs.laws.TypedSheets as typedSheets
 use Rattle.scope.specs.laws.TypedTruths as typedTruths
 use Rattle.scope.specs.laws.TableReads as tableReads
+use Rattle.scope.specs.laws.Forms as forms
 
 -- ---- reading, for lines of n fields
 
@@ -57,25 +61,21 @@ column-told = beginnings.column-iff
 pub no-column : (n : ℕ) (s : List ℕ) → lineSize n ≤ length s → (columnOf n s ≡ none) ↔ ((l : Line) × Printed n s l)
 no-column = beginnings.column-none
 
--- a sheet is accepted exactly if it is a valid one, printed
-pub sheet-read : (n : ℕ) → 3 ≤ n → (s : List ℕ) (t : Sheet) → (read n s ≡ accepted t) ↔ ((s ≡ sheetBytes n t) × Valid t)
-sheet-read = inverse.read-iff
+-- what is read from a sheet is what SheetRead says: the valid sheet that was printed, or the first cause to turn it down
+pub sheet-read : (n : ℕ) → 3 ≤ n → (s : List ℕ) (r : Read) → (read n s ≡ r) ↔ SheetRead n s r
+sheet-read = sheetReads.sheet-iff
 
--- and two valid sheets that are printed alike are the same
+-- so what is read is fixed, and with it what a promise over it gives
+pub sheet-gives : {B : Type 0} (s : List ℕ) (f : Read → B) (b : B) → (b ≡ f (read fieldCount s)) ↔ Gives (SheetRead fieldCount s) f b
+sheet-gives s = given.given-iff (SheetRead fieldCount s) (read fieldCount s) (sheet-read fieldCount (omega arith) s)
+
+-- two valid sheets that are printed alike are the same
 pub sheet-printed-once : (n : ℕ) → 3 ≤ n → (t u : Sheet) → Valid t → Valid u → sheetBytes n t ≡ sheetBytes n u → t ≡ u
 sheet-printed-once = inverse.printed-once
 
--- it is refused exactly if the cause is there and no earlier one is
-pub sheet-refused : (n : ℕ) (s : List ℕ) (c place column : ℕ) → (read n s ≡ refused c place column) ↔ Cause n s c place column
-sheet-refused = refusals.refused-iff
-
--- by one of the numbers 1 to 7; 4 names line 1, and 2 alone has a column, one of its line's
-pub refusal-number : (n : ℕ) (s : List ℕ) {c place column : ℕ} → Cause n s c place column → SheetRefusal n c place column
-refusal-number = refusals.cause-number
-
--- so what is read from a sheet is a source; a claim below that asks for no source holds of whatever was read
-pub sheet-source : (s : List ℕ) → Source (read fieldCount s)
-sheet-source = sources.sheet-source
+-- it is refused by one of the numbers 1 to 7; 4 names line 1, and 2 alone has a column, one of its line's
+pub sheet-refusal : (n : ℕ) (s : List ℕ) {c place column : ℕ} → SheetRead n s (refused c place column) → SheetRefusal n c place column
+sheet-refusal = sheetReads.refusal-number
 
 -- ---- plans
 
@@ -113,24 +113,31 @@ rating-claim = demands.rating-right
 pub text-read : (s : List ℕ) (r : Read) → (readText s ≡ r) ↔ TextRead s r
 text-read = textReads.text-iff
 
+pub text-gives : {B : Type 0} (s : List ℕ) (f : Read → B) (b : B) → (b ≡ f (readText s)) ↔ Gives (TextRead s) f b
+text-gives s = given.given-iff (TextRead s) (readText s) (text-read s)
+
 -- a text is legal for one value only
 pub text-once : (v w : Typed) (s : List ℕ) → Legal v s → Legal w s → v ≡ w
 text-once = walked.legal-once
 
--- what is read from it is a source
-pub text-source : (s : List ℕ) → Source (readText s)
-text-source s = typedSheets.reads-source s (readText s) (text-read s (readText s) .0 refl)
+-- it is refused by 12, by 4 on line 1 or 2, or by 5 or 6 on a line after them; 1, 2, 3 and 7 are not for texts
+pub text-refusal : (s : List ℕ) {c place column : ℕ} → TextRead s (refused c place column) → TextRefusal c place column
+text-refusal s = typedSheets.refusal-number
+
+-- and its answer ends as a sheet's does
+pub text-ending : (s lent : List ℕ) (a : Answer) → IsAnswer (TextRead s) lent a → Ending (TextRead s) lent a
+text-ending s lent a g = rw (g .given) (demands.ending-of (TextRead s) lent (g .read) (g .is-read))
 
 -- of a legal text whose tests are all met, each rule is true exactly if its formula is, as it is written
-pub rules-as-written : (v : Typed) (s : List ℕ) → Legal v s → All Met (lineRows v) → (plan pattern : ℕ) → map (truth (sheetOf v) plan pattern) (sheetOf v .rules) ≡ map (formulaTrue (switchOn (sheetOf v) plan) (faultOn (sheetOf v) pattern)) (v .rules)
+pub rules-as-written : (v : Typed) (s : List ℕ) → Legal v s → All Met (lineTests v) → (plan pattern : ℕ) → map (truth (sheetOf v) plan pattern) (sheetOf v .rules) ≡ map (formulaTrue (switchOn (sheetOf v) plan) (faultOn (sheetOf v) pattern)) (v .rules)
 rules-as-written v s l m = typedTruths.rules-true v (typedSheets.rules-on-sheet v s l m)
 
 -- so a plan passes a pattern exactly if all formulas of the text are true
-pub passes-as-written : (v : Typed) (s : List ℕ) → Legal v s → All Met (lineRows v) → (plan pattern : ℕ) → passes (sheetOf v) plan pattern ≡ all (formulaTrue (switchOn (sheetOf v) plan) (faultOn (sheetOf v) pattern)) (v .rules)
+pub passes-as-written : (v : Typed) (s : List ℕ) → Legal v s → All Met (lineTests v) → (plan pattern : ℕ) → passes (sheetOf v) plan pattern ≡ all (v .rules) (formulaTrue (switchOn (sheetOf v) plan) (faultOn (sheetOf v) pattern))
 passes-as-written v s l m = typedTruths.passes-written v (typedSheets.rules-on-sheet v s l m)
 
 -- each wish is kept exactly if one of its literals is true, as it is written
-pub wishes-as-written : (v : Typed) (plan : ℕ) → map (kept (sheetOf v) plan) (sheetOf v .wishes) ≡ map (λ w. any (literalTrue (switchOn (sheetOf v) plan)) w) (v .wishes)
+pub wishes-as-written : (v : Typed) (plan : ℕ) → map (kept (sheetOf v) plan) (sheetOf v .wishes) ≡ map (λ w. any w (literalTrue (switchOn (sheetOf v) plan))) (v .wishes)
 wishes-as-written = typedTruths.wishes-written
 
 -- ---- writing
@@ -139,55 +146,74 @@ wishes-as-written = typedTruths.wishes-written
 pub tables-read : (n : ℕ) → 3 ≤ n → (u : Tables) (r : Read) → (readTables n u ≡ r) ↔ TablesRead n u r
 tables-read = tableReads.tables-iff
 
+pub tables-give : {B : Type 0} (n : ℕ) → 3 ≤ n → (u : Tables) (f : Read → B) (b : B) → (b ≡ f (readTables n u)) ↔ Gives (TablesRead n u) f b
+tables-give n wide u = given.given-iff (TablesRead n u) (readTables n u) (tables-read n wide u)
+
 -- they are refused by 4, 5 or 6, and 4 names line 1
 pub tables-refusal : (n : ℕ) (u : Tables) {c place column : ℕ} → TablesRead n u (refused c place column) → TablesRefusal c place column
 tables-refusal = tableReads.refusal-number
 
--- a refusal returns the length 0 and changes no byte of the buffer
-pub write-refused : (n : ℕ) (u : Tables) (out : List ℕ) → write n u out .number ≢ 0 → (write n u out .length ≡ 0) × (write n u out .buffer ≡ out)
-unfolding write
-write-refused n u out = tableReads.refused-kept n (readTables n u) out
+module _ (n : ℕ) (u : Tables) (out : List ℕ) (w : WriteResult) (is : IsWritten n u out w) where
+  -- a refusal returns the length 0 and changes no byte of the buffer
+  pub write-refused : w .number ≢ 0 → (w .length ≡ 0) × (w .buffer ≡ out)
+  write-refused = rw (is .given) (tableReads.refused-kept n (is .read) out)
 
--- 13 comes last: exactly if the tables hold a valid sheet, and the buffer is shorter
-pub write-room : (n : ℕ) → 3 ≤ n → (u : Tables) (out : List ℕ) → (write n u out .number ≡ 13) ↔ ((t : Sheet) × Holds u t × Valid t × (length out < length (sheetBytes n t)))
-unfolding write
-write-room n wide u out = (
-  tableReads.no-room n u out (tables-read n wide u (readTables n u) .0 refl),
-  λ (t, h, v, l). rw (tables-read n wide u (accepted t) .1 (writing.accepted h v), tableReads.left-out n t out l),
-)
+  -- 13 comes last: exactly if the tables hold a valid sheet, and the buffer is shorter
+  pub write-room : 3 ≤ n → (w .number ≡ 13) ↔ ((t : Sheet) × Holds u t × Valid t × (length out < length (sheetBytes n t)))
+  write-room wide = rw (is .given) (tableReads.no-room n u out (is .is-read), tableReads.left-out-of n u out wide (is .is-read))
 
--- reading a written sheet gives those tables, up to their counts
-pub written-read : (n : ℕ) → 3 ≤ n → (u : Tables) (out : List ℕ) → write n u out .number ≡ 0 → (t : Sheet) × Holds u t × (read n (take (write n u out .length) (write n u out .buffer)) ≡ accepted t)
-unfolding write
-written-read n wide u out e =
-    let (t, h, v, s) = tableReads.written-sheet n u out (tables-read n wide u (readTables n u) .0 refl) e in
-    (t, h, sheet-read n wide (take (write n u out .length) (write n u out .buffer)) t .1 (s, v))
+  -- reading a written sheet gives those tables, up to their counts
+  pub written-read : w .number ≡ 0 → (t : Sheet) × Holds u t × SheetRead n (take (w .length) (w .buffer)) (accepted t)
+  written-read e =
+      let (t, h, v, s) = tableReads.written-sheet n u out (is .is-read) (rw (is .given) at e) in
+      (t, h, sheets.accepted {t = t} (rw (is .given) s) v)
 
 -- and writing the tables of an accepted sheet, where there is room, gives that sheet, byte for byte
-pub read-written : (n : ℕ) → 3 ≤ n → (s : List ℕ) (t : Sheet) → read n s ≡ accepted t → (u : Tables) → Holds u t → (out : List ℕ) → length s ≤ length out → write n u out ≡ written 0 0 0 (length s) (over s out)
-unfolding write
-read-written n wide s t e u h out room =
-    let (b, v) = sheet-read n wide s t .0 e in
-    rw (tables-read n wide u (accepted t) .1 (writing.accepted h v), b) (tableReads.written-in n t out (rw b at room))
+pub read-written : (n : ℕ) (s : List ℕ) (t : Sheet) → SheetRead n s (accepted t) → (u : Tables) → Holds u t → (out : List ℕ) → length s ≤ length out → IsWritten n u out (written 0 0 0 (length s) (over s out))
+read-written n s t (sheets.accepted b v) u h out room = record { read = accepted t; is-read = writing.accepted h v; given = sym (rw b (tableReads.written-in n t out (rw b at room))) }
 
--- ---- demands 2 and 3
+-- ---- the demands
+
+pub demand1 : (s lent : List ℕ) (a : Answer) → IsAnswer (SheetRead fieldCount s) lent a → Demand1 s lent a
+demand1 s lent a g = rw (g .given) (demands.demand1 s lent (g .read) (g .is-read))
 
 pub demand2 : (r : Read) (lent : List ℕ) (t : Sheet) → r ≡ accepted t → Demand2 t lent (answerOf r lent)
 demand2 = demands.demand2
 
-pub demand3 : (r : Read) (lent : List ℕ) → Demand3 r lent
+-- over whatever was read and every lent list, and every beginning of what was listed
+pub demand3 : (r : Read) (lent : List ℕ) (j : ℕ) → Demand3 r lent j (answerOf r lent) (shortOf r (listed (answerOf r lent))) (shortOf r (take j (listed (answerOf r lent))))
 demand3 = demands.demand3
 
 pub short-claim : (r : Read) (l : List ℕ) (t : Sheet) → r ≡ accepted t → ((i : ℕ) → i < length l → getD l i 0 < patterns t) → ShortRun t l (shortOf r l)
 short-claim = demands.short-run
 
--- two forms that are read as the same sheet have the same answers
-pub same-tables : (r q : Read) (t : Sheet) → r ≡ accepted t → q ≡ accepted t → ((lent : List ℕ) → answerOf r lent ≡ answerOf q lent) × ((l : List ℕ) → shortOf r l ≡ shortOf q l) × ((p : ℕ) → ratingOf r p ≡ ratingOf q p)
-same-tables r q t e f = let g : r ≡ q = e ∙ sym f in (λ lent. ap (λ o. answerOf o lent) g, λ l. ap (λ o. shortOf o l) g, λ p. ap (λ o. ratingOf o p) g)
+-- ---- both forms
 
--- along a full run each candidate is strictly worse than the one before
-pub candidates-worse : (t : Sheet) (i j : ℕ) → i < j → j < length (list t) → Before (cost t) (lead (task t) (take i (list t))) (lead (task t) (take j (list t)))
-candidates-worse t = rules.leads-worse (task t) (list t) (rules.settled (task t) .ruled)
+-- what is read from a sheet or a text is a source; a claim that asks for no source holds of whatever was read
+pub form-source : (x : Form) (r : Read) → ReadFrom x r → Source r
+form-source = forms.form-source
+
+-- and nothing else is read from it
+pub read-once : (x : Form) (r q : Read) → ReadFrom x r → ReadFrom x q → r ≡ q
+read-once = forms.read-once
+
+-- the same tables, with the same list or plan, give the same answer, whatever form each is read from
+module _ (x y : Form) (t v : Sheet) (from-x : ReadFrom x (accepted t)) (from-y : ReadFrom y (accepted v)) (u : Tables) (hold-t : Holds u t) (hold-v : Holds u v) where
+  pub same-answer : (lent : List ℕ) (a b : Answer) → IsAnswer (ReadFrom x) lent a → IsAnswer (ReadFrom y) lent b → a ≡ b
+  same-answer lent = forms.same-given x y t v from-x from-y u hold-t hold-v (λ r. answerOf r lent)
+
+  pub same-short-run : (l : List ℕ) (a b : Result) → IsShortRun (ReadFrom x) l a → IsShortRun (ReadFrom y) l b → a ≡ b
+  same-short-run l = forms.same-given x y t v from-x from-y u hold-t hold-v (λ r. shortOf r l)
+
+  pub same-rating : (p : ℕ) (a b : Rating) → IsRating (ReadFrom x) p a → IsRating (ReadFrom y) p b → a ≡ b
+  same-rating p = forms.same-given x y t v from-x from-y u hold-t hold-v (λ r. ratingOf r p)
+
+-- along a full run each candidate is strictly worse than the one before, and the answer is the last of them
+pub candidates-worse : (t : Sheet) (i j : ℕ) → i < j → j ≤ length (list t) → (p q : ℕ) → best (task t) (take i (list t)) ≡ some p → best (task t) (take j (list t)) ≡ some q → Better (cost t) p q
+candidates-worse t = rules.candidates-worse (task t) (list t) (rules.settled (task t) .ruled)
+
+pub answer-last : (t : Sheet) (p : ℕ) → (whole (task t) .verdict ≡ Verdict.plan p) ↔ (best (task t) (take (length (list t)) (list t)) ≡ some p)
+answer-last t = rules.answer-last (task t)
 
 -- ---- the program
 

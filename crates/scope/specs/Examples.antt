@@ -1,6 +1,7 @@
 -- Examples, from the bytes as they are typed, by computation. Assumes nothing.
 use Prim.Native.Nat.{ℕ}
 use Prim.Native.String.{String}
+use native.Mathlib.Omega.{arith}
 use mathlib.Core.Bool.{true}
 use mathlib.Core.List.{List, [], _∷_, _++_}
 use mathlib.Core.Option.{none, some}
@@ -8,12 +9,17 @@ use mathlib.Core.Path.{_≡_, refl}
 use lib.ListN.{replicate}
 use Rattle.scope.specs.Text.{bytes, lines}
 use Rattle.scope.specs.Sheet.{Gate, sheet, number, plus, fieldCount, decimal, field, fieldsBytes, All}
-use Rattle.scope.specs.Reading.{fieldOf, fieldsOf, letterOf, lineOf, zeros, literals, clause, rows, make, Read, accepted, refused, lineAt, columnAt, columnOf, testsAt, readFrom, read}
+use Rattle.scope.specs.Causes.{zeros, literals, clause, tests, make, Read, accepted, refused}
+use Rattle.scope.specs.Reading.{fieldOf, fieldsOf, letterOf, lineOf, lineAt, columnAt, columnOf, testsAt, readFrom, read}
 use Rattle.scope.specs.Meaning.{bits, truths, truth, passes, keeps, broken, switchOn, kept, cost}
 use Rattle.scope.specs.Pick.{pick}
 use Rattle.scope.specs.Rule.{best, missed, short, next, rule}
-use Rattle.scope.specs.Jobs.{Answer, Result, Rating, answered, refusal, found, answer, shortRun, rated, unrated, rating}
-use Rattle.scope.specs.Program.{each, rowsBytes, outputRows, output}
+use Rattle.scope.specs.Jobs.{Answer, Result, Rating, answered, refusal, found, answerOf, IsAnswer, shortOf, IsShortRun, rated, unrated, ratingOf, IsRating}
+use Rattle.scope.specs.Source.{Gives}
+use Rattle.scope.specs.Program.{each, rowsBytes, outputRows, output, sheetInput}
+use Rattle.scope.specs.Sheets.{SheetRead}
+use Rattle.scope.specs.Claims.{sheet-read, sheet-gives}
+use Rattle.scope.specs.laws.Alls.{all-imply}
 
 -- the sample sheet of docs/FORMAT.md
 abbrev pub sample : List String
@@ -21,10 +27,11 @@ sample = "H    2    2    0" ∷ "O    1    2    0" ∷ "O    3    4    0" ∷ "O
 
 -- ---- reading
 
-abbrev Example : Type 0
+-- a sheet, and what is read from it
+abbrev pub Example : Type 0
 Example = List String × Read
 
-abbrev examples : List Example
+abbrev pub examples : List Example
 examples =
     -- E1, E3
     ([], refused 1 0 0)
@@ -57,9 +64,12 @@ examples =
     ∷ ("H    1    0    0" ∷ "W    1    0    0" ∷ replicate 64 "R    1    0    0" ++ "R    0    0    0" ∷ "Z   67    0    0" ∷ [], refused 3 3 0)
     ∷ []
 
-pub reading : All (λ e. read fieldCount (lines (e .0)) ≡ e .1) examples
-unfolding read readFrom testsAt lineAt columnAt columnOf pick fieldsBytes lineOf letterOf fieldsOf fieldOf field decimal rows zeros make literals clause
-reading = (refl, (refl, (refl, (refl, (refl, (refl, (refl, (refl, (refl, (refl, (refl, (refl, (refl, (refl, (refl, (refl, (refl, (refl, (refl, (refl, (refl, (refl, tt))))))))))))))))))))))
+computed : All (λ e. read fieldCount (lines (e .0)) ≡ e .1) examples
+unfolding read readFrom testsAt lineAt columnAt columnOf pick fieldsBytes lineOf letterOf fieldsOf fieldOf field decimal tests zeros make literals clause
+computed = (refl, (refl, (refl, (refl, (refl, (refl, (refl, (refl, (refl, (refl, (refl, (refl, (refl, (refl, (refl, (refl, (refl, (refl, (refl, (refl, (refl, (refl, tt))))))))))))))))))))))
+
+pub reading : All (λ e. SheetRead fieldCount (lines (e .0)) (e .1)) examples
+reading = all-imply (λ e. read fieldCount (lines (e .0)) ≡ e .1) (λ e. SheetRead fieldCount (lines (e .0)) (e .1)) (λ e. sheet-read fieldCount (omega arith) (lines (e .0)) (e .1) .0) examples computed
 
 pub printing : (field (plus 0) ≡ bytes "    0") × (field (plus 99999) ≡ bytes "99999") × (field (number true 12) ≡ bytes "  -12") × (field (number true 9999) ≡ bytes "-9999")
 unfolding field decimal
@@ -68,15 +78,26 @@ printing = (refl, refl, refl, refl)
 -- ---- the jobs: one table, E1 to E10 and E14
 
 -- a job, what it is lent, and what it returns
-pub data Row : Type 0 where
-  answers : List String → List ℕ → Answer → Row
-  runs : List String → List ℕ → Result → Row
-  rates : List String → ℕ → Rating → Row
+pub data Job : Type 0 where
+  answers : List String → List ℕ → Answer → Job
+  runs : List String → List ℕ → Result → Job
+  rates : List String → ℕ → Rating → Job
 
-abbrev pub Holds : Row → Type 0
-Holds (answers s lent a) = answer (lines s) lent ≡ a
-Holds (runs s lent r) = shortRun (lines s) lent ≡ r
-Holds (rates s p r) = rating (lines s) p ≡ r
+abbrev pub Correct : Job → Type 0
+Correct (answers s lent a) = IsAnswer (SheetRead fieldCount (lines s)) lent a
+Correct (runs s l r) = IsShortRun (SheetRead fieldCount (lines s)) l r
+Correct (rates s p r) = IsRating (SheetRead fieldCount (lines s)) p r
+
+-- by computation
+abbrev Computed : Job → Type 0
+Computed (answers s lent a) = a ≡ answerOf (read fieldCount (lines s)) lent
+Computed (runs s l r) = r ≡ shortOf (read fieldCount (lines s)) l
+Computed (rates s p r) = r ≡ ratingOf (read fieldCount (lines s)) p
+
+correct : (j : Job) → Computed j → Correct j
+correct (answers s lent a) e = sheet-gives (lines s) (λ r. answerOf r lent) a .0 e
+correct (runs s l b) e = sheet-gives (lines s) (λ r. shortOf r l) b .0 e
+correct (rates s p b) e = sheet-gives (lines s) (λ r. ratingOf r p) b .0 e
 
 -- room for four words, which hold 7
 abbrev room : List ℕ
@@ -89,7 +110,7 @@ e4 = "H    0    1    0" ∷ "R    1    0    0" ∷ "Z    2    0    0" ∷ []
 abbrev misprint : List String
 misprint = "H    2    2    0" ∷ "O    1  002    0" ∷ "Z    2    0    0" ∷ []
 
-abbrev pub table : List Row
+abbrev pub table : List Job
 table =
     -- E1: the empty sheet
     answers [] room (answered (refusal 1 0 0 0) room)
@@ -126,16 +147,28 @@ table =
     ∷ rates misprint 4 (unrated 2 2 9)
     ∷ []
 
-pub table-holds : All Holds table
-unfolding answer shortRun rating read readFrom testsAt lineAt columnAt columnOf fieldsBytes lineOf letterOf fieldsOf fieldOf field decimal rows zeros make literals clause rule next best missed short pick passes truth truths bits cost broken keeps switchOn
-table-holds = (refl, (refl, (refl, (refl, (refl, (refl, (refl, (refl, (refl, (refl, (refl, (refl, (refl, (refl, (refl, (refl, (refl, (refl, (refl, (refl, tt))))))))))))))))))))
+table-computed : All Computed table
+unfolding read readFrom testsAt lineAt columnAt columnOf fieldsBytes lineOf letterOf fieldsOf fieldOf field decimal tests zeros make literals clause rule next best missed short pick passes truth truths bits cost broken keeps switchOn
+table-computed = (refl, (refl, (refl, (refl, (refl, (refl, (refl, (refl, (refl, (refl, (refl, (refl, (refl, (refl, (refl, (refl, (refl, (refl, (refl, (refl, tt))))))))))))))))))))
 
--- ---- the program, on the sample
-pub printed : output (lines sample) ≡ lines ("A    0    0    1" ∷ "S    1    0    0" ∷ "S    2    1    0" ∷ "W    1    1    0" ∷ "W    2    0    0" ∷ "F    1    0    0" ∷ "Z    6    0    0" ∷ [])
-unfolding output outputRows rowsBytes fieldsBytes each read readFrom testsAt lineAt lineOf letterOf fieldsOf fieldOf field decimal rows zeros make literals clause rule next best missed short pick passes truth truths bits cost kept broken keeps switchOn
-printed = refl
+pub table-holds : All Correct table
+table-holds = all-imply Computed Correct correct table table-computed
 
--- after 2 the third number of the A line is the column
-pub told : output (lines misprint) ≡ lines ("A    2    2    9" ∷ "Z    1    0    0" ∷ [])
-unfolding output outputRows rowsBytes fieldsBytes each read readFrom testsAt lineAt columnAt columnOf pick lineOf letterOf fieldsOf fieldOf field decimal rows zeros make literals clause
-told = refl
+-- ---- the program: an input, and what it writes
+
+abbrev pub listings : List (List String × List String)
+listings =
+    (sample, "A    0    0    1" ∷ "S    1    0    0" ∷ "S    2    1    0" ∷ "W    1    1    0" ∷ "W    2    0    0" ∷ "F    1    0    0" ∷ "Z    6    0    0" ∷ [])
+    -- after 2 the third number of the A line is the column
+    ∷ (misprint, "A    2    2    9" ∷ "Z    1    0    0" ∷ [])
+    ∷ []
+
+abbrev pub Prints : List String × List String → Type 0
+Prints e = Gives (SheetRead fieldCount (sheetInput (lines (e .0)))) output (lines (e .1))
+
+listings-computed : All (λ e. lines (e .1) ≡ output (read fieldCount (sheetInput (lines (e .0))))) listings
+unfolding output outputRows rowsBytes fieldsBytes each read readFrom testsAt lineAt columnAt columnOf lineOf letterOf fieldsOf fieldOf field decimal tests zeros make literals clause rule next best missed short pick passes truth truths bits cost kept broken keeps switchOn
+listings-computed = (refl, (refl, tt))
+
+pub printed : All Prints listings
+printed = all-imply (λ e. lines (e .1) ≡ output (read fieldCount (sheetInput (lines (e .0))))) Prints (λ e. sheet-gives (sheetInput (lines (e .0))) output (lines (e .1)) .0) listings listings-computed

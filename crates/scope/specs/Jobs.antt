@@ -5,8 +5,9 @@ use mathlib.Core.List.{List, [], _∷_, _++_}
 use mathlib.Core.Option.{Option, none, some}
 use lib.Dec.{ltb}
 use lib.ListN.{length, drop}
-use Rattle.scope.specs.Sheet.{Sheet, fieldCount}
-use Rattle.scope.specs.Reading.{Read, accepted, refused, read}
+use Rattle.scope.specs.Sheet.{Sheet}
+use Rattle.scope.specs.Causes.{Read, accepted, refused}
+use Rattle.scope.specs.Source.{Gives}
 use Rattle.scope.specs.Meaning.{plans, patterns, passes, cost}
 use Rattle.scope.specs.Rule.{Task, Verdict, plan, noPlan, noRoom, Run, missed, short, rule}
 
@@ -55,8 +56,9 @@ answerOf (accepted t) lent =
     answered (result t (r .verdict) (length (r .words))) (over (r .words) lent)
 answerOf (refused n place column) lent = answered (refusal n place column 0) lent
 
-unfoldable pub answer : List ℕ → List ℕ → Answer
-answer s lent = answerOf (read fieldCount s) lent
+-- a is what Answer gives; R says what is read, as here and below
+abbrev pub IsAnswer : (R : Read → Type 0) → (lent : List ℕ) → Answer → Type 0
+IsAnswer R lent a = Gives R (λ r. answerOf r lent) a
 
 -- ---- Short run: the best plan that passes the given patterns
 
@@ -74,8 +76,8 @@ abbrev pub shortOf : Read → List ℕ → Result
 shortOf (accepted t) l = shortBelow t l (firstHigh (patterns t) 1 l)
 shortOf (refused n place column) l = refusal n place column 0
 
-unfoldable pub shortRun : List ℕ → List ℕ → Result
-shortRun s l = shortOf (read fieldCount s) l
+abbrev pub IsShortRun : (R : Read → Type 0) → (patterns : List ℕ) → Result → Type 0
+IsShortRun R l b = Gives R (λ r. shortOf r l) b
 
 -- ---- Rating: the cost of a plan, whether it is sound, and the smallest pattern that it does not pass
 
@@ -100,5 +102,5 @@ abbrev pub ratingOf : Read → ℕ → Rating
 ratingOf (accepted t) p = cond (ltb p (plans t)) (rated (cost t p) (missed (task t) p)) (unrated 10 0 0)
 ratingOf (refused n place column) p = unrated n place column
 
-unfoldable pub rating : List ℕ → ℕ → Rating
-rating s p = ratingOf (read fieldCount s) p
+abbrev pub IsRating : (R : Read → Type 0) → (plan : ℕ) → Rating → Type 0
+IsRating R p b = Gives R (λ r. ratingOf r p) b

@@ -1,22 +1,24 @@
 -- to believe, in reading order
 pub mod Text
 pub mod Sheet
-pub mod Pick
-pub mod Reading
 pub mod Causes
-pub mod Source
+pub mod Sheets
 pub mod Meaning
 pub mod Typed
 pub mod Texts
--- computes what Texts says of a typed text (`text-read` in Claims)
-pub mod Parsing
--- to believe, further
+pub mod Source
+pub mod Pick
 pub mod Rule
 pub mod Jobs
 pub mod Demands
 pub mod Tables
 pub mod Writing
 pub mod Program
+-- compute what Sheets, Texts and Writing say (`sheet-read`, `text-read` and `tables-read` in Claims); nothing above rests on them
+pub mod Reading
+pub mod Parsing
+pub mod Checking
+-- what is claimed of all this, and examples
 pub mod Claims
 pub mod Examples
 pub mod TypedExamples

@@ -4,15 +4,16 @@ use mathlib.Core.Bool.{Bool, true, false, cond, not, _&&_, _||_}
 use mathlib.Core.List.{List, [], _∷_, _++_}
 use lib.Dec.{eqb}
 use lib.ListN.{getD}
-use Rattle.scope.specs.Sheet.{Number, Clause, Gate, Sheet}
+use Rattle.scope.specs.Sheet.{Number, Clause, Gate, Sheet, sheet}
 
-abbrev pub all : {A : Type 0} → (A → Bool) → List A → Bool
-all f [] = true
-all f (a ∷ s) = f a && all f s
+-- the library's `all` and `any`, which do not compute outside of it
+abbrev pub all : {A : Type 0} → List A → (A → Bool) → Bool
+all [] f = true
+all (a ∷ s) f = f a && all s f
 
-abbrev pub any : {A : Type 0} → (A → Bool) → List A → Bool
-any f [] = false
-any f (a ∷ s) = f a || any f s
+abbrev pub any : {A : Type 0} → List A → (A → Bool) → Bool
+any [] f = false
+any (a ∷ s) f = f a || any s f
 
 -- ---- plans (the source's μ) and patterns (its ν): n switches or faults as binary digits of k, the first highest, on as 1
 
@@ -41,7 +42,7 @@ abbrev pub literalTrue : (ℕ → Bool) → Number → Bool
 literalTrue v x = cond (x .minus) (not (v (x .size))) (v (x .size))
 
 unfoldable pub keeps : (ℕ → Bool) → Clause → Bool
-keeps v w = any (literalTrue v) w
+keeps v w = any w (literalTrue v)
 
 -- how many of these are broken, each counted every time it is written
 unfoldable pub broken : (ℕ → Bool) → List Clause → ℕ
@@ -67,7 +68,7 @@ module _ (t : Sheet) where
 
   -- all rules are true
   unfoldable pub passes : (plan pattern : ℕ) → Bool
-  passes plan pattern = all (truth plan pattern) (t .rules)
+  passes plan pattern = all (t .rules) (truth plan pattern)
 
   unfoldable pub kept : (plan : ℕ) → Clause → Bool
   kept plan = keeps (switchOn plan)
@@ -75,3 +76,7 @@ module _ (t : Sheet) where
   -- the broken wishes
   unfoldable pub cost : (plan : ℕ) → ℕ
   cost plan = broken (switchOn plan) (t .wishes)
+
+-- what these wishes cost on a sheet with these switches, faults, gates and rules
+abbrev pub costs : (a f : ℕ) → List Gate → List ℕ → (plan : ℕ) → List Clause → ℕ
+costs a f gs rs plan ws = cost (sheet a f gs rs ws) plan

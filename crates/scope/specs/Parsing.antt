@@ -8,8 +8,9 @@ use lib.Dec.{eqb, leb, ltb}
 use lib.ListN.{length}
 use Rattle.scope.specs.Text.{bytes}
 use Rattle.scope.specs.Sheet.{number, Clause, mostLiterals}
-use Rattle.scope.specs.Reading.{Row, firstFault, Read, accepted, refused, onward, when}
-use Rattle.scope.specs.Typed.{Formula, Typed, typed, Level, ors, ands, factor, mostNested, mostText, lineRows, sheetOf}
+use Rattle.scope.specs.Causes.{Test, Read, accepted, refused}
+use Rattle.scope.specs.Reading.{firstFault, unlessFault, when}
+use Rattle.scope.specs.Typed.{Formula, Typed, typed, Level, ors, ands, factor, mostNested, mostText, lineTests, sheetOf}
 
 -- ---- where a text has come to
 
@@ -192,13 +193,13 @@ abbrev pub start : State
 start = word (bytes "switches ") (digits switches)
 
 -- the first line with a fault, from line k on
-unfoldable pub firstLine : ℕ → List (List Row) → Read → Read
+unfoldable pub firstLine : ℕ → List (List Test) → Read → Read
 firstLine k [] more = more
-firstLine k (rs ∷ rss) more = onward (firstFault rs) k 0 (firstLine (suc k) rss more)
+firstLine k (rs ∷ rss) more = unlessFault (firstFault rs) k 0 (firstLine (suc k) rss more)
 
 -- 12: the text is too long or not legal
 abbrev pub textOf : ℕ → Outcome → Read
-textOf n (legal v) = firstLine 1 (lineRows v) (accepted (sheetOf v))
+textOf n (legal v) = firstLine 1 (lineTests v) (accepted (sheetOf v))
 textOf n (stuck left) = refused 12 (suc (n - left)) 0
 
 unfoldable pub readText : List ℕ → Read

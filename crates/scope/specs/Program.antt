@@ -1,19 +1,22 @@
--- What the program writes, as a function of the bytes that it reads. Assumes nothing.
-use Prim.Native.Nat.{ℕ, suc}
+-- What the programs write, as a function of what is read. Assumes nothing.
+use Prim.Native.Nat.{ℕ, suc, _+_, _*_}
 use Prim.Native.Char.{Char, code}
 use mathlib.Core.Bool.{Bool, cond}
 use mathlib.Core.List.{List, [], _∷_, _++_}
-use lib.Dec.{eqb}
+use lib.Dec.{eqb, ltb}
 use lib.ListN.{length, take, replicate}
-use Rattle.scope.specs.Sheet.{Clause, Sheet, Number, plus, fieldsBytes, fieldCount}
-use Rattle.scope.specs.Reading.{Read, accepted, refused, mostBytes, read}
+use Rattle.scope.specs.Sheet.{Clause, Sheet, Number, plus, fieldsBytes, fieldCount, mostSwitches, mostWishes}
+use Rattle.scope.specs.Causes.{Read, accepted, refused, lineSize, mostBytes}
+use Rattle.scope.specs.Source.{Gives}
 use Rattle.scope.specs.Meaning.{bits, kept}
 use Rattle.scope.specs.Typed.{mostText}
-use Rattle.scope.specs.Parsing.{readText}
-use Rattle.scope.specs.Jobs.{Result, Answer, answerOf}
+use Rattle.scope.specs.Jobs.{Result, Answer, over, answerOf}
 use Rattle.scope.specs.Demands.{listed}
 
--- a line of the sheet's shape: a letter and three numbers
+-- a line of the first sheets' shape: a letter and three numbers
+abbrev pub outputFields : ℕ
+outputFields = 3
+
 pub record Row : Type 0 where
   pub letter : ℕ
   pub fields : List Number
@@ -66,18 +69,37 @@ ended rs = rs ++ row "Z" (length rs) 0 0 ∷ []
 abbrev pub room : ℕ
 room = 4096
 
--- up to one byte more than a sheet may have
-abbrev pub inputOf : List ℕ → List ℕ
-inputOf input = take (suc (mostBytes fieldCount)) input
-
 -- for what was read, from whatever form
 unfoldable pub outputRows : Read → List Row
 outputRows r = ended (answerRows r (answerOf r (replicate room 0)))
 
-unfoldable pub output : List ℕ → List ℕ
-output input = rowsBytes (outputRows (read fieldCount (inputOf input)))
+unfoldable pub output : Read → List ℕ
+output r = rowsBytes (outputRows r)
 
--- ---- the second program: a typed text, up to one byte more than it may have
+-- ---- what a program reads of its input: up to one byte more than a sheet, or a typed text, may have
 
-unfoldable pub textOutput : List ℕ → List ℕ
-textOutput input = rowsBytes (outputRows (readText (take (suc mostText) input)))
+abbrev pub sheetInput : List ℕ → List ℕ
+sheetInput input = take (suc (mostBytes fieldCount)) input
+
+abbrev pub textInput : List ℕ → List ℕ
+textInput input = take (suc mostText) input
+
+-- ---- the listing put into a lent buffer: what comes after it keeps its content, and one that may be too short is left as it was
+
+-- the bytes of the longest listing: A, a line for each switch, wish and pattern that there may be, and Z
+abbrev pub mostOutput : ℕ
+mostOutput = (mostSwitches + mostWishes + room + 2) * lineSize outputFields
+
+pub record ListingResult : Type 0 where
+  pub length : ℕ
+  pub buffer : List ℕ
+
+abbrev pub listingResult : ℕ → List ℕ → ListingResult
+listingResult n out = record { length = n; buffer = out }
+
+unfoldable pub listingOf : Read → List ℕ → ListingResult
+listingOf r out = cond (ltb (length out) mostOutput) (listingResult 0 out) (listingResult (length (output r)) (over (output r) out))
+
+-- b is what is returned and left in the buffer; R says what is read
+abbrev pub IsListing : (R : Read → Type 0) → (out : List ℕ) → ListingResult → Type 0
+IsListing R out b = Gives R (λ r. listingOf r out) b

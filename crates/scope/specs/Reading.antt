@@ -1,13 +1,14 @@
--- What reading gives for every list of bytes: a sheet, or the number, place and column of the first cause to turn it down. Assumes nothing.
-use Prim.Native.Nat.{ℕ, zero, suc, _+_, _-_, _*_, _/_, _%_}
+-- Reads a sheet by computing: `sheet-read` (Claims) says that it gives what SheetRead says. Assumes nothing.
+use Prim.Native.Nat.{ℕ, zero, suc, _+_, _-_, _*_}
 use Prim.Native.Char.{code}
 use mathlib.Core.Bool.{Bool, true, false, cond, not, _&&_, _||_}
 use mathlib.Core.List.{List, [], _∷_, _++_}
 use mathlib.Core.Option.{Option, none, some, Option·getD}
-use lib.Dec.{eqb, leb, ltb}
-use lib.ListN.{length, getD, take, drop, replicate}
-use Rattle.scope.specs.Sheet.{Number, number, plus, Clause, Gate, Sheet, sheet, points, fieldSize, field, fits, Letter, H, N, A, O, R, W, Z, letterByte, Line, line, lineBytes, mostSwitches, mostFaults, mostGates, mostRules, mostWishes, mostLiterals}
-use Rattle.scope.specs.Pick.{pick}
+use lib.Dec.{eqb}
+use lib.ListN.{length, take, drop, replicate}
+use Rattle.scope.specs.Sheet.{Number, number, plus, Sheet, fieldSize, field, fits, Letter, H, N, A, O, R, W, Z, letterByte, Line, line, lineBytes}
+use Rattle.scope.specs.Causes.{Test, tests, started, make, Read, accepted, refused, lengthOk, lineCount, bytesAt, isLast}
+use Rattle.scope.specs.Pick.{smallest}
 
 -- ---- a line read: guess a number from the bytes, and compare what it prints; `line-read` (Claims) says all of it
 
@@ -83,148 +84,44 @@ begins n p = formed (lineOf n (p ++ drop (length p) (model n)))
 
 -- the smallest c such that the first c bytes begin no well-formed line
 unfoldable pub columnOf : ℕ → List ℕ → Option ℕ
-columnOf n s = pick (λ c. 0) (λ c. not (begins n (take c s))) (suc (length s))
+columnOf n s = smallest (λ c. not (begins n (take c s))) (suc (length s))
 
--- ---- what may stand in a field
+-- ---- the tests of a line, and what it adds
 
-abbrev pub is : ℕ → Number → Bool
-is n x = not (x .minus) && eqb (x .size) n
+-- 2: line malformed or letter unknown
+abbrev pub testsOf : Sheet → ℕ → Bool → Option Line → List Test
+testsOf t k last none = (2, false) ∷ []
+testsOf t k last (some l) = tests t k last (l .letter) (l .fields)
 
-abbrev pub upTo : ℕ → Number → Bool
-upTo m x = not (x .minus) && leb (x .size) m
-
--- a point of m, a literal of a switches
-abbrev pub point : ℕ → Number → Bool
-point m x = upTo m x && ltb 0 (x .size)
-
-abbrev pub literal : ℕ → Number → Bool
-literal a x = leb (x .size) a && ltb 0 (x .size)
-
-unfoldable pub zeros : List Number → Bool
-zeros [] = true
-zeros (x ∷ xs) = is 0 x && zeros xs
-
--- literals come first and zeros fill up
-unfoldable pub literals : ℕ → List Number → Bool
-literals a [] = true
-literals a (x ∷ xs) = cond (is 0 x) (zeros xs) (literal a x && literals a xs)
-
--- the literals before the first 0
-unfoldable pub clause : List Number → Clause
-clause [] = []
-clause (x ∷ xs) = cond (is 0 x) [] (x ∷ clause xs)
-
-abbrev pub at : List Number → ℕ → Number
-at xs i = getD xs i (plus 0)
-
--- ---- the causes, tested line by line: t is what the k lines before say, and `last` is whether no line comes after
-
-abbrev pub empty : {A : Type 0} → List A → Bool
-empty s = eqb (length s) 0
-
--- a test, and the number of the refusal that it spares
-abbrev pub Row : Type 0
-Row = ℕ × Bool
-
-abbrev pub firstFault : List Row → Option ℕ
+abbrev pub firstFault : List Test → Option ℕ
 firstFault [] = none
-firstFault (r ∷ rs) = cond (r .1) (firstFault rs) (some (r .0))
-
-module _ (t : Sheet) (k : ℕ) (last : Bool) where
-  abbrev first : Bool
-  first = eqb k 0
-
-  abbrev between : Bool
-  between = not first && not last
-
-  abbrev pub gateRows : Bool → List Row
-  gateRows fields = (3, between && (empty (t .rules) && empty (t .wishes))) ∷ (5, ltb (length (t .gates)) mostGates) ∷ (6, fields) ∷ []
-
-  -- 3: letter not allowed at this line; 4: a or f outside its range; 5: gate 401, rule 65 or wish 65;
-  -- 6: point or literal not allowed, unused field not 0, literal after a 0; 7: n in Z wrong
-  unfoldable pub rows : Letter → List Number → List Row
-  rows H xs = (3, first && not last) ∷ (4, upTo mostSwitches (at xs 0) && upTo mostFaults (at xs 1)) ∷ (6, zeros (drop 2 xs)) ∷ []
-  rows N xs = gateRows (point (points t) (at xs 0) && zeros (drop 1 xs))
-  rows A xs = gateRows ((point (points t) (at xs 0) && point (points t) (at xs 1)) && zeros (drop 2 xs))
-  rows O xs = gateRows ((point (points t) (at xs 0) && point (points t) (at xs 1)) && zeros (drop 2 xs))
-  rows R xs = (3, between && empty (t .wishes)) ∷ (5, ltb (length (t .rules)) mostRules) ∷ (6, point (points t) (at xs 0) && zeros (drop 1 xs)) ∷ []
-  rows W xs = (3, between) ∷ (5, ltb (length (t .wishes)) mostWishes) ∷ (6, literals (t .switches) (take mostLiterals xs) && zeros (drop mostLiterals xs)) ∷ []
-  rows Z xs = (3, not first && last) ∷ (6, zeros (drop 1 xs)) ∷ (7, is k (at xs 0)) ∷ []
-
-  -- 2: line malformed or letter unknown
-  abbrev pub tests : Option Line → List Row
-  tests none = (2, false) ∷ []
-  tests (some l) = rows (l .letter) (l .fields)
-
--- ---- the sheet with one more line
-
-abbrev pub started : ℕ → ℕ → Sheet
-started a f = sheet a f [] [] []
-
-abbrev pub addGate : Sheet → Gate → Sheet
-addGate t g = sheet (t .switches) (t .faults) (t .gates ++ g ∷ []) (t .rules) (t .wishes)
-
-abbrev pub addRule : Sheet → ℕ → Sheet
-addRule t p = sheet (t .switches) (t .faults) (t .gates) (t .rules ++ p ∷ []) (t .wishes)
-
-abbrev pub addWish : Sheet → Clause → Sheet
-addWish t w = sheet (t .switches) (t .faults) (t .gates) (t .rules) (t .wishes ++ w ∷ [])
-
-unfoldable pub make : Sheet → Letter → List Number → Sheet
-make t H xs = started (at xs 0 .size) (at xs 1 .size)
-make t N xs = addGate t (Gate.not (at xs 0 .size))
-make t A xs = addGate t (Gate.and (at xs 0 .size) (at xs 1 .size))
-make t O xs = addGate t (Gate.or (at xs 0 .size) (at xs 1 .size))
-make t R xs = addRule t (at xs 0 .size)
-make t W xs = addWish t (clause (take mostLiterals xs))
-make t Z xs = t
+firstFault (x ∷ xs) = cond (x .1) (firstFault xs) (some (x .0))
 
 abbrev pub add : Sheet → Option Line → Sheet
 add t none = t
 add t (some l) = make t (l .letter) (l .fields)
 
--- ---- the whole: 1, then the lines from the first, each tested for 2, 3, 4, 5, 6, 7
+-- ---- the whole: 1, then the lines from the first
 
-pub data Read : Type 0 where
-  accepted : Sheet → Read
-  refused : (number place column : ℕ) → Read
-
-abbrev pub onward : Option ℕ → (place column : ℕ) → Read → Read
-onward none place column more = more
-onward (some c) place column more = refused c place column
+abbrev pub unlessFault : Option ℕ → (place column : ℕ) → Read → Read
+unlessFault none place column more = more
+unlessFault (some c) place column more = refused c place column
 
 module _ (n : ℕ) where
-  abbrev pub lineSize : ℕ
-  lineSize = 1 + n * fieldSize + 1
-
-  -- H, Z and as many others as there may be
-  abbrev pub mostBytes : ℕ
-  mostBytes = (mostGates + mostRules + mostWishes + 2) * lineSize
-
-  abbrev pub lengthOk : ℕ → Bool
-  lengthOk m = ltb 0 m && (leb m mostBytes && eqb (m % lineSize) 0)
-
-  abbrev pub lineCount : List ℕ → ℕ
-  lineCount s = length s / lineSize
-
-  -- line k, counted from 0
-  abbrev pub bytesAt : List ℕ → ℕ → List ℕ
-  bytesAt s k = take lineSize (drop (k * lineSize) s)
-
   unfoldable pub lineAt : List ℕ → ℕ → Option Line
-  lineAt s k = lineOf n (bytesAt s k)
+  lineAt s k = lineOf n (bytesAt n s k)
 
   -- 0 if it is well-formed
   unfoldable pub columnAt : List ℕ → ℕ → ℕ
-  columnAt s k = Option·getD (columnOf n (bytesAt s k)) 0
+  columnAt s k = Option·getD (columnOf n (bytesAt n s k)) 0
 
-  unfoldable pub testsAt : List ℕ → Sheet → ℕ → List Row
-  testsAt s t k = tests t k (eqb (suc k) (lineCount s)) (lineAt s k)
+  unfoldable pub testsAt : List ℕ → Sheet → ℕ → List Test
+  testsAt s t k = testsOf t k (isLast n s k) (lineAt s k)
 
   -- m lines from line k on, after lines that say t
   unfoldable pub readFrom : List ℕ → ℕ → ℕ → Sheet → Read
   readFrom s zero k t = accepted t
-  readFrom s (suc m) k t = onward (firstFault (testsAt s t k)) (suc k) (columnAt s k) (readFrom s m (suc k) (add t (lineAt s k)))
+  readFrom s (suc m) k t = unlessFault (firstFault (testsAt s t k)) (suc k) (columnAt s k) (readFrom s m (suc k) (add t (lineAt s k)))
 
   unfoldable pub read : List ℕ → Read
-  read s = cond (lengthOk (length s)) (readFrom s (lineCount s) 0 (started 0 0)) (refused 1 0 0)
+  read s = cond (lengthOk n (length s)) (readFrom s (lineCount n s) 0 (started 0 0)) (refused 1 0 0)

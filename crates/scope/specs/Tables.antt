@@ -8,7 +8,7 @@ use lib.Dec.{eqb}
 use lib.ListN.{length, getD, take}
 use Rattle.scope.specs.Sheet.{Number, number, plus, Clause, Gate, Sheet}
 
--- counts, and a column for each word of a gate, rule or wish; words beyond the counts are ignored
+-- counts, and an array for each word of a gate, rule or wish; words beyond the counts are ignored
 pub record Tables : Type 0 where
   pub switches : ℕ
   pub faults : ℕ

@@ -9,7 +9,7 @@ use lib.Dec.{leb, ltb}
 use lib.ListN.{length}
 use Rattle.scope.specs.Text.{bytes}
 use Rattle.scope.specs.Sheet.{Number, Clause, Gate, Sheet, sheet, decimal, All, Among, mostSwitches, mostFaults, mostGates, mostRules, mostWishes, mostLiterals}
-use Rattle.scope.specs.Reading.{Row}
+use Rattle.scope.specs.Causes.{Test}
 use Rattle.scope.specs.Meaning.{all}
 
 -- ---- the value
@@ -154,18 +154,18 @@ module _ (a f : ℕ) where
   known (Formula.or x y) = known x && known y
 
   -- 5: gate 401 or rule 65; 6: a number that is not on the sheet
-  unfoldable pub ruleRows : ℕ → ℕ → List Formula → List (List Row)
-  ruleRows n i [] = []
-  ruleRows n i (x ∷ xs) = ((5, leb (n + operators x) mostGates && ltb i mostRules) ∷ (6, known x) ∷ []) ∷ ruleRows (n + operators x) (suc i) xs
+  unfoldable pub ruleTests : ℕ → ℕ → List Formula → List (List Test)
+  ruleTests n i [] = []
+  ruleTests n i (x ∷ xs) = ((5, leb (n + operators x) mostGates && ltb i mostRules) ∷ (6, known x) ∷ []) ∷ ruleTests (n + operators x) (suc i) xs
 
   -- 5: wish 65; 6: a literal that is not on the sheet
-  unfoldable pub wishRows : ℕ → List Clause → List (List Row)
-  wishRows j [] = []
-  wishRows j (w ∷ ws) = ((5, ltb j mostWishes) ∷ (6, all (λ x. leb (x .size) a) w) ∷ []) ∷ wishRows (suc j) ws
+  unfoldable pub wishTests : ℕ → List Clause → List (List Test)
+  wishTests j [] = []
+  wishTests j (w ∷ ws) = ((5, ltb j mostWishes) ∷ (6, all w (λ x. leb (x .size) a)) ∷ []) ∷ wishTests (suc j) ws
 
 unfoldable pub sheetOf : Typed → Sheet
 sheetOf v = sheet (v .switches) (v .faults) (allGates (v .switches) (v .faults) 0 (v .rules)) (allPoints (v .switches) (v .faults) 0 (v .rules)) (v .wishes)
 
 -- 4: a or f outside its range, on line 1 or 2
-unfoldable pub lineRows : Typed → List (List Row)
-lineRows v = ((4, leb (v .switches) mostSwitches) ∷ []) ∷ ((4, leb (v .faults) mostFaults) ∷ []) ∷ ruleRows (v .switches) (v .faults) 0 0 (v .rules) ++ wishRows (v .switches) (v .faults) 0 (v .wishes)
+unfoldable pub lineTests : Typed → List (List Test)
+lineTests v = ((4, leb (v .switches) mostSwitches) ∷ []) ∷ ((4, leb (v .faults) mostFaults) ∷ []) ∷ ruleTests (v .switches) (v .faults) 0 0 (v .rules) ++ wishTests (v .switches) (v .faults) 0 (v .wishes)

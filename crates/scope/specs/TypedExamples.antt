@@ -7,23 +7,28 @@ use mathlib.Core.Path.{_≡_, refl}
 use lib.ListN.{replicate}
 use Rattle.scope.specs.Text.{bytes, lines}
 use Rattle.scope.specs.Sheet.{Gate, sheet, number, decimal, field, fieldsBytes, All}
-use Rattle.scope.specs.Reading.{Read, accepted, refused}
+use Rattle.scope.specs.Causes.{Read, accepted, refused}
 use Rattle.scope.specs.Meaning.{bits, truths, truth, passes, keeps, broken, switchOn, kept, cost}
-use Rattle.scope.specs.Typed.{operators, point, gatesOf, allGates, allPoints, known, ruleRows, wishRows, sheetOf, lineRows}
+use Rattle.scope.specs.Typed.{operators, point, gatesOf, allGates, allPoints, known, ruleTests, wishTests, sheetOf, lineTests}
 use Rattle.scope.specs.Parsing.{nested, operandDone, numberDone, nestedMore, move, step, atEnd, walk, firstLine, readText}
 use Rattle.scope.specs.Pick.{pick}
 use Rattle.scope.specs.Rule.{best, missed, short, next, rule}
-use Rattle.scope.specs.Jobs.{answered, refusal, found, answerOf, shortOf, rated, ratingOf}
-use Rattle.scope.specs.Program.{each, rowsBytes, outputRows, textOutput}
+use Rattle.scope.specs.Jobs.{Answer, answered, refusal, found, answerOf, IsAnswer, shortOf, IsShortRun, rated, ratingOf, IsRating}
+use Rattle.scope.specs.Source.{Gives}
+use Rattle.scope.specs.Texts.{TextRead}
+use Rattle.scope.specs.Program.{each, rowsBytes, outputRows, output, textInput}
+use Rattle.scope.specs.Claims.{text-read, text-gives}
+use Rattle.scope.specs.laws.Alls.{all-imply}
 
 -- E3, typed
-abbrev sample : List ℕ
+abbrev pub sample : List ℕ
 sample = lines ("switches 2" ∷ "faults 2" ∷ "rule (s1|s2) | (f1|f2)" ∷ "wish !s1" ∷ "wish !s2" ∷ [])
 
-abbrev Example : Type 0
+-- a text, and what is read from it
+abbrev pub Example : Type 0
 Example = List ℕ × Read
 
-abbrev examples : List Example
+abbrev pub examples : List Example
 examples =
     (sample, accepted (sheet 2 2 (Gate.or 1 2 ∷ Gate.or 3 4 ∷ Gate.or 5 6 ∷ []) (7 ∷ []) ((number true 1 ∷ []) ∷ (number true 2 ∷ []) ∷ [])))
     ∷ ([], refused 12 1 0)
@@ -44,27 +49,49 @@ examples =
     ∷ (bytes "switches 3\nfaults 1\nrule " ++ replicate 40 40, refused 12 58 0)
     ∷ []
 
-pub reading : All (λ e. readText (e .0) ≡ e .1) examples
-unfolding readText walk step move nestedMore nested operandDone numberDone atEnd firstLine lineRows sheetOf ruleRows wishRows known allGates allPoints gatesOf point operators
-reading = (refl, (refl, (refl, (refl, (refl, (refl, (refl, (refl, (refl, (refl, (refl, (refl, (refl, (refl, tt))))))))))))))
+computed : All (λ e. readText (e .0) ≡ e .1) examples
+unfolding readText walk step move nestedMore nested operandDone numberDone atEnd firstLine lineTests sheetOf ruleTests wishTests known allGates allPoints gatesOf point operators
+computed = (refl, (refl, (refl, (refl, (refl, (refl, (refl, (refl, (refl, (refl, (refl, (refl, (refl, (refl, tt))))))))))))))
+
+pub reading : All (λ e. TextRead (e .0) (e .1)) examples
+reading = all-imply (λ e. readText (e .0) ≡ e .1) (λ e. TextRead (e .0) (e .1)) (λ e. text-read (e .0) (e .1) .0) examples computed
 
 -- ---- the jobs: a refused text leaves the lent list as it was
-abbrev room : List ℕ
+abbrev pub room : List ℕ
 room = 7 ∷ 7 ∷ 7 ∷ []
 
-pub answers : (answerOf (readText sample) room ≡ answered (found 1 1 1) (0 ∷ 7 ∷ 7 ∷ [])) × (answerOf (readText (bytes "switches 1")) room ≡ answered (refusal 12 11 0 0) room)
-unfolding readText walk step move operandDone numberDone nestedMore nested atEnd firstLine lineRows sheetOf ruleRows wishRows known allGates allPoints gatesOf point operators rule next best missed short pick passes truth truths bits cost broken keeps switchOn
-answers = (refl, refl)
+-- a text, and what Answer gives and leaves in the list
+abbrev pub answers : List (List ℕ × Answer)
+answers = (sample, answered (found 1 1 1) (0 ∷ 7 ∷ 7 ∷ [])) ∷ (bytes "switches 1", answered (refusal 12 11 0 0) room) ∷ []
 
-pub runs : shortOf (readText sample) (0 ∷ []) ≡ found 1 1 0
-unfolding readText walk step move operandDone numberDone nestedMore nested atEnd firstLine lineRows sheetOf ruleRows wishRows known allGates allPoints gatesOf point operators best short pick passes truth truths bits cost broken keeps switchOn
-runs = refl
+answers-computed : All (λ e. e .1 ≡ answerOf (readText (e .0)) room) answers
+unfolding readText walk step move operandDone numberDone nestedMore nested atEnd firstLine lineTests sheetOf ruleTests wishTests known allGates allPoints gatesOf point operators rule next best missed short pick passes truth truths bits cost broken keeps switchOn
+answers-computed = (refl, (refl, tt))
 
-pub rates : ratingOf (readText sample) 3 ≡ rated 2 none
-unfolding readText walk step move operandDone numberDone nestedMore nested atEnd firstLine lineRows sheetOf ruleRows wishRows known allGates allPoints gatesOf point operators missed pick passes truth truths bits cost broken keeps switchOn
-rates = refl
+pub answered-right : All (λ e. IsAnswer (TextRead (e .0)) room (e .1)) answers
+answered-right = all-imply (λ e. e .1 ≡ answerOf (readText (e .0)) room) (λ e. IsAnswer (TextRead (e .0)) room (e .1)) (λ e. text-gives (e .0) (λ r. answerOf r room) (e .1) .0) answers answers-computed
+
+run-computed : found 1 1 0 ≡ shortOf (readText sample) (0 ∷ [])
+unfolding readText walk step move operandDone numberDone nestedMore nested atEnd firstLine lineTests sheetOf ruleTests wishTests known allGates allPoints gatesOf point operators rule next best missed short pick passes truth truths bits cost broken keeps switchOn
+run-computed = refl
+
+pub run-right : IsShortRun (TextRead sample) (0 ∷ []) (found 1 1 0)
+run-right = text-gives sample (λ r. shortOf r (0 ∷ [])) (found 1 1 0) .0 run-computed
+
+rate-computed : rated 2 none ≡ ratingOf (readText sample) 3
+unfolding readText walk step move operandDone numberDone nestedMore nested atEnd firstLine lineTests sheetOf ruleTests wishTests known allGates allPoints gatesOf point operators rule next best missed short pick passes truth truths bits cost broken keeps switchOn
+rate-computed = refl
+
+pub rate-right : IsRating (TextRead sample) 3 (rated 2 none)
+rate-right = text-gives sample (λ r. ratingOf r 3) (rated 2 none) .0 rate-computed
 
 -- ---- the second program: what the first prints for the sheet
-pub printed : textOutput sample ≡ lines ("A    0    0    1" ∷ "S    1    0    0" ∷ "S    2    1    0" ∷ "W    1    1    0" ∷ "W    2    0    0" ∷ "F    1    0    0" ∷ "Z    6    0    0" ∷ [])
-unfolding textOutput outputRows rowsBytes fieldsBytes field decimal each readText walk step move operandDone numberDone nestedMore nested atEnd firstLine lineRows sheetOf ruleRows wishRows known allGates allPoints gatesOf point operators rule next best missed short pick passes truth truths bits cost kept broken keeps switchOn
-printed = refl
+abbrev pub listing : List ℕ
+listing = lines ("A    0    0    1" ∷ "S    1    0    0" ∷ "S    2    1    0" ∷ "W    1    1    0" ∷ "W    2    0    0" ∷ "F    1    0    0" ∷ "Z    6    0    0" ∷ [])
+
+listing-computed : listing ≡ output (readText (textInput sample))
+unfolding readText walk step move operandDone numberDone nestedMore nested atEnd firstLine lineTests sheetOf ruleTests wishTests known allGates allPoints gatesOf point operators rule next best missed short pick passes truth truths bits cost broken keeps switchOn output outputRows rowsBytes fieldsBytes field decimal each kept
+listing-computed = refl
+
+pub printed : Gives (TextRead (textInput sample)) output listing
+printed = text-gives (textInput sample) output listing .0 listing-computed

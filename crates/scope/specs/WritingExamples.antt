@@ -2,50 +2,54 @@
 use Prim.Native.Nat.{ℕ}
 use Prim.Native.Char.{code}
 use Prim.Native.String.{String}
+use native.Mathlib.Omega.{arith}
 use mathlib.Core.List.{List, [], _∷_, _++_}
 use mathlib.Core.Path.{_≡_, refl}
 use lib.ListN.{replicate}
 use Rattle.scope.specs.Text.{bytes, lines}
 use Rattle.scope.specs.Sheet.{decimal, field, fieldsBytes, text, body, fieldCount, All}
-use Rattle.scope.specs.Reading.{zeros, literals, clause, rows, make}
+use Rattle.scope.specs.Causes.{zeros, literals, clause, tests, make}
 use Rattle.scope.specs.Parsing.{firstLine}
 use Rattle.scope.specs.Tables.{Tables}
-use Rattle.scope.specs.Writing.{entries, tableLines, rowsFrom, sheetFrom, readTables, Written, written, write}
+use Rattle.scope.specs.Writing.{entries, WriteResult, written, writtenOf, IsWritten}
+use Rattle.scope.specs.Checking.{tableLines, testsFrom, sheetFrom, readTables}
+use Rattle.scope.specs.Claims.{tables-give}
+use Rattle.scope.specs.laws.Alls.{all-imply}
 
 -- three gates, a rule and two wishes: of switch 1 off or 2 on, and of nothing
-abbrev sample : List String
+abbrev pub sample : List String
 sample = "H    2    1    0" ∷ "N    1    0    0" ∷ "A    2    3    0" ∷ "O    4    5    0" ∷ "R    6    0    0" ∷ "W   -1    2    0" ∷ "W    0    0    0" ∷ "Z    7    0    0" ∷ []
 
--- counts, the columns of gates, that of rules, those of wishes
-abbrev tables : (a f gates rules wishes : ℕ) → (kind left right rule first second third : List ℕ) → Tables
+-- counts, the arrays of gates, that of rules, those of wishes
+abbrev pub tables : (a f gates rules wishes : ℕ) → (kind left right rule first second third : List ℕ) → Tables
 tables a f gates rules wishes kind left right rule first second third = record { switches = a; faults = f; gates = gates; rules = rules; wishes = wishes; kind = kind; left = left; right = right; rule = rule; first = first; second = second; third = third }
 
-abbrev sampleTables : Tables
+abbrev pub sampleTables : Tables
 sampleTables = tables 2 1 3 1 2 (bytes "NAO") (1 ∷ 2 ∷ 4 ∷ []) (0 ∷ 3 ∷ 5 ∷ []) (6 ∷ []) (3 ∷ 0 ∷ []) (4 ∷ 0 ∷ []) (0 ∷ 0 ∷ [])
 
 -- the same counts, and words beyond them
-abbrev moreWords : Tables
+abbrev pub moreWords : Tables
 moreWords = tables 2 1 3 1 2 (bytes "NAOX") (1 ∷ 2 ∷ 4 ∷ 9 ∷ 9 ∷ []) (0 ∷ 3 ∷ 5 ∷ 9 ∷ []) (6 ∷ 0 ∷ []) (3 ∷ 0 ∷ 1 ∷ []) (4 ∷ 0 ∷ 1 ∷ []) (0 ∷ 0 ∷ 9 ∷ 9 ∷ [])
 
 -- one switch, and one gate, rule or wish
-abbrev gate : (kind left right : List ℕ) → Tables
+abbrev pub gate : (kind left right : List ℕ) → Tables
 gate kind left right = tables 1 0 1 0 0 kind left right [] [] [] []
 
-abbrev wish : (first second third : List ℕ) → Tables
+abbrev pub wish : (first second third : List ℕ) → Tables
 wish first second third = tables 1 0 0 0 1 [] [] [] [] first second third
 
 -- one switch and 405 gates N 1, of which the third names the point left
-abbrev many : (left : ℕ) → Tables
+abbrev pub many : (left : ℕ) → Tables
 many left = tables 1 0 405 0 0 (replicate 405 (code "N")) (1 ∷ 1 ∷ left ∷ replicate 402 1) (replicate 405 0) [] [] [] []
 
 -- what is written, where, and what is returned
-abbrev Example : Type 0
-Example = Tables × List ℕ × Written
+abbrev pub Example : Type 0
+Example = Tables × List ℕ × WriteResult
 
-abbrev turned : (number place : ℕ) → Written
+abbrev pub turned : (number place : ℕ) → WriteResult
 turned c place = written c place 0 0 []
 
-abbrev examples : List Example
+abbrev pub examples : List Example
 examples =
     -- bytes after the sheet keep their content
     (sampleTables, replicate 140 7, written 0 0 0 136 (lines sample ++ replicate 4 7))
@@ -67,13 +71,16 @@ examples =
     ∷ (wish (1 ∷ []) (0 ∷ []) (0 ∷ []), [], turned 6 2)
     ∷ (wish (0 ∷ []) (2 ∷ []) (0 ∷ []), [], turned 6 2)
     ∷ (wish (4 ∷ []) (0 ∷ []) (0 ∷ []), [], turned 6 2)
-    -- a column that is shorter than its count
+    -- an array that is shorter than its count
     ∷ (gate [] (1 ∷ []) (0 ∷ []), [], turned 6 2)
     ∷ (gate (code "N" ∷ []) (1 ∷ []) [], [], turned 6 2)
     ∷ (tables 1 0 0 3 0 [] [] [] (1 ∷ 1 ∷ []) [] [] [], [], turned 6 4)
     ∷ (wish (2 ∷ []) (0 ∷ []) [], [], turned 6 2)
     ∷ []
 
-pub writing : All (λ e. write fieldCount (e .0) (e .1) ≡ e .2) examples
-unfolding write readTables firstLine tableLines entries rowsFrom sheetFrom rows make zeros literals clause body text fieldsBytes field decimal
-writing = (refl, (refl, (refl, (refl, (refl, (refl, (refl, (refl, (refl, (refl, (refl, (refl, (refl, (refl, (refl, (refl, (refl, (refl, tt))))))))))))))))))
+computed : All (λ e. e .2 ≡ writtenOf fieldCount (readTables fieldCount (e .0)) (e .1)) examples
+unfolding readTables firstLine tableLines entries testsFrom sheetFrom tests make zeros literals clause body text fieldsBytes field decimal
+computed = (refl, (refl, (refl, (refl, (refl, (refl, (refl, (refl, (refl, (refl, (refl, (refl, (refl, (refl, (refl, (refl, (refl, (refl, tt))))))))))))))))))
+
+pub writing : All (λ e. IsWritten fieldCount (e .0) (e .1) (e .2)) examples
+writing = all-imply (λ e. e .2 ≡ writtenOf fieldCount (readTables fieldCount (e .0)) (e .1)) (λ e. IsWritten fieldCount (e .0) (e .1) (e .2)) (λ e. tables-give fieldCount (omega arith) (e .0) (λ r. writtenOf fieldCount r (e .1)) (e .2) .0) examples computed

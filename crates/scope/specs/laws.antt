@@ -1,12 +1,18 @@
 -- what is proved of the definitions
 pub mod Tests
+pub mod Lists
+pub mod Alls
+pub mod Gates
+pub mod Given
 pub mod Fields
 pub mod Digits
 pub mod Lines
+pub mod Scans
 pub mod Beginnings
 pub mod Refusals
 pub mod Steps
 pub mod Inverse
+pub mod SheetReads
 pub mod Sources
 pub mod Points
 pub mod Wishes
@@ -23,4 +29,6 @@ pub mod TypedSheets
 pub mod TypedTruths
 pub mod Writing
 pub mod Held
+pub mod Entries
 pub mod TableReads
+pub mod Forms

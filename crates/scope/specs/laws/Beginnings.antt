@@ -12,9 +12,12 @@ use lib.ListN.{length, take, drop, replicate, length-append, length-replicate, l
 use lib.Seq.{take-at, drop-at, take-add, take-all, take-length, length-take-le, take-take, take-append-le, take-append-add, drop-append-le, drop-append-add}
 use borrow.Author.Tests.{ne-eqb, not-true, not-false}
 use Rattle.scope.specs.Sheet.{Number, fieldSize, digit, decimal, field, fits, Letter, H, letterByte, Line, fieldsBytes, lineBytes}
-use Rattle.scope.specs.Reading.{fieldOf, also, fieldsOf, letterOf, joined, lineOf, full, model, formed, begins, columnOf, lineSize}
-use Rattle.scope.specs.Causes.{Printed, Begins, Stops, Column, stopped, wellFormed}
+use Rattle.scope.specs.Causes.{lineSize}
+use Rattle.scope.specs.Sheets.{Printed, Begins, Stops}
+use Rattle.scope.specs.Reading.{fieldOf, also, fieldsOf, letterOf, joined, lineOf, full, model, formed, begins, columnOf}
+use Rattle.scope.specs.laws.Scans.{Column, stopped, wellFormed}
 use Rattle.scope.specs.laws.Tests.{clash}
+use Rattle.scope.specs.laws.Alls.{all-replicate}
 use Rattle.scope.specs.laws.Fields.{length-field, field-iff}
 use Rattle.scope.specs.laws.Digits.{Part, ones, filled, field-part}
 use Rattle.scope.specs.laws.Lines.{Fit, fields-iff, letter-iff, line-iff, length-line}
@@ -43,6 +46,7 @@ full-ones : field full ≡ ones fieldSize
 unfolding field decimal
 full-ones = refl
 
+-- filled up with ones it is a number
 pub part-begins : (m : Bool) (n : ℕ) (p : List ℕ) → Part m n p → length p < fieldSize → fieldBegins p ≡ true
 part-begins m n p h l =
     let j : ℕ = fieldSize - 1 - length p in
@@ -51,6 +55,7 @@ part-begins m n p h l =
     let (x, a, f) = filled m n j p h e in
     rw d (some-formed (field-iff (p ++ ones (suc j)) x .1 (a, f)))
 
+-- all of a field, or a beginning that can be filled up
 pub field-begins : (x : Number) (p v : List ℕ) → fits x ≡ true → field x ≡ p ++ v → fieldBegins p ≡ true
 field-begins x p [] f e =
     let g : field x ≡ p = e ∙ append-nil p in
@@ -65,11 +70,7 @@ abbrev pub fieldsBegin : ℕ → List ℕ → Bool
 fieldsBegin n p = formed (fieldsOf n (p ++ drop (length p) (fieldsBytes (replicate n full))))
 
 model-fields : (n : ℕ) → formed (fieldsOf n (fieldsBytes (replicate n full))) ≡ true
-model-fields n = some-formed (fields-iff n (fieldsBytes (replicate n full)) (replicate n full) .1 record { printed = refl; count = length-replicate n full; fit = all-fit n })
-  where
-    all-fit : (n : ℕ) → Fit (replicate n full)
-    all-fit zero = tt
-    all-fit (suc n) = (refl, all-fit n)
+model-fields n = some-formed (fields-iff n (fieldsBytes (replicate n full)) (replicate n full) .1 record { printed = refl; count = length-replicate n full; fit = all-replicate (λ x. fits x ≡ true) n full refl })
 
 -- s is q, five bytes, and r
 fields-formed : (n : ℕ) (s q r : List ℕ) → s ≡ q ++ r → length q ≡ fieldSize → formed (fieldsOf (suc n) s) ≡ (formed (fieldOf q) && formed (fieldsOf n r))
@@ -137,6 +138,7 @@ none-begins : (n : ℕ) → begins n [] ≡ true
 unfolding letterOf
 none-begins n = joined-formed n (letterByte H) (fieldsBytes (replicate n full)) ∙ model-fields n
 
+-- filled up from the model line, p is a line exactly if some line begins with p: part by part, up to the part where p ends
 begins-iff : (n : ℕ) (p : List ℕ) → (begins n p ≡ true) ↔ Begins n p
 begins-iff n p = (to, back p)
   where
@@ -186,6 +188,7 @@ module _ (n : ℕ) (s : List ℕ) where
   abbrev bad : ℕ → Bool
   bad c = not (begins n (take c s))
 
+  -- what begins a beginning is one too, so the first column that is bad comes right after the longest beginning
   pub column-iff : (c : ℕ) → (columnOf n s ≡ some c) ↔ Stops n s c
   unfolding columnOf
   column-iff c = (λ e. to c (pick-iff (λ c. 0) bad (suc (length s)) (some c) .0 e), λ h. pick-iff (λ c. 0) bad (suc (length s)) (some c) .1 (back h))

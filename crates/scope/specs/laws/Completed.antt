@@ -23,22 +23,22 @@ abbrev Told : (p s : List ℕ) → Outcome → Type 0
 Told p s (legal v) = Legal v (p ++ s)
 Told p s (stuck n) = (n ≤ length s) × (st : State) × Reached st (p ++ take (length s - n) s)
 
-none-left : {st : State} {p : List ℕ} → Reached st p → Told p [] (stuck 0)
-none-left {st} r = (omega arith, st, rw append-nil r)
+stuck-told : {st : State} {p : List ℕ} → Reached st p → Told p [] (stuck 0)
+stuck-told {st} r = (omega arith, st, rw append-nil r)
 
 end-told : (st : State) (p : List ℕ) → Reached st p → Told p [] (atEnd st)
 unfolding atEnd
 end-told (State.ruleLine v) p (Reached.ruleLine l e) = rw append-nil l
 end-told (State.wishLine v) p (Reached.wishLine l) = rw append-nil l
-end-told (State.word w st) p r = none-left r
-end-told (State.digits slot) p r = none-left r
-end-told (State.second slot n) p r = none-left r
-end-told (State.spaced k) p r = none-left r
-end-told (State.operand k) p r = none-left r
-end-told (State.after a x) p r = none-left r
-end-told (State.sign a x) p r = none-left r
-end-told (State.wish v w) p r = none-left r
-end-told (State.ended v w) p r = none-left r
+end-told (State.word w st) p r = stuck-told r
+end-told (State.digits slot) p r = stuck-told r
+end-told (State.second slot n) p r = stuck-told r
+end-told (State.spaced k) p r = stuck-told r
+end-told (State.operand k) p r = stuck-told r
+end-told (State.after a x) p r = stuck-told r
+end-told (State.sign a x) p r = stuck-told r
+end-told (State.wish v w) p r = stuck-told r
+end-told (State.ended v w) p r = stuck-told r
 
 told-cons : (b : ℕ) (p s : List ℕ) (o : Outcome) → Told (p ++ b ∷ []) s o → Told p (b ∷ s) o
 told-cons b p s (legal v) h = rw append-snoc at h
@@ -145,6 +145,7 @@ reached-ends (Reached.ended {v = v} {w = w} u h i) = wish-ends v w
 
 -- ---- where no byte goes on
 
+-- what leads from the state to an end makes a legal text of it
 reached-starts : (st : State) (p : List ℕ) → Reached st p → Starts p
 reached-starts st p r = let (q, v, e) = reached-ends r in (p ++ q, v, (q, refl), subst (Told p q) e (walk-told q st p r))
 

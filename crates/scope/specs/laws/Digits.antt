@@ -11,10 +11,15 @@ use lib.ListN.{length, replicate, length-append, length-replicate}
 use lib.Seq.{append-snoc}
 use borrow.Author.Tests.{le-ltb, lt-ltb, le-leb}
 use Rattle.scope.specs.Sheet.{Number, number, fieldSize, digit, decimal, signed, justified, field, fits}
-use Rattle.scope.specs.laws.Fields.{by-digits, length-snoc, Fitting, fitting}
+use Rattle.scope.specs.laws.Lists.{length-snoc, begins-snoc}
+use Rattle.scope.specs.laws.Fields.{by-digits, Fitting, fitting}
 
 abbrev pub spaces : ℕ → List ℕ
 spaces k = replicate k (code " ")
+
+pub spaces-snoc : (k : ℕ) → spaces k ++ code " " ∷ [] ≡ spaces (suc k)
+spaces-snoc zero = refl
+spaces-snoc (suc k) = ap (λ s. code " " ∷ s) (spaces-snoc k)
 
 -- ---- digits
 
@@ -27,9 +32,9 @@ pub record Digits (n : ℕ) (ds : List ℕ) : Type 0 where
 abbrev pub More : ℕ → List ℕ → Type 0
 More n ds = (d : ℕ) → d < 10 → 0 < n * 10 + d → Digits (n * 10 + d) (ds ++ digit d ∷ [])
 
-first-digit : More 0 []
+more-none : More 0 []
 unfolding decimal
-first-digit d h l = record { shown = one; small = omega arith }
+more-none d h l = record { shown = one; small = omega arith }
   where
     one : (w : ℕ) → 0 * 10 + d < 10 ^ w → decimal w (0 * 10 + d) ≡ digit d ∷ []
     one zero p = absurd (omega arith)
@@ -55,9 +60,9 @@ pub record Shown (m : Bool) (n : ℕ) (p : List ℕ) : Type 0 where
   pub some : 0 < n
   pub are : Digits n digits
 
-pub zero-digit : decimal fieldSize 0 ≡ code "0" ∷ []
+pub zero-shown : decimal fieldSize 0 ≡ code "0" ∷ []
 unfolding decimal
-zero-digit = refl
+zero-shown = refl
 
 -- five columns of it are its field
 module _ (p : List ℕ) (l : length p ≡ fieldSize) where
@@ -92,7 +97,7 @@ pub record Part (m : Bool) (n : ℕ) (p : List ℕ) : Type 0 where
   pub bytes : p ≡ spaces before ++ signed m digits
   pub more : More n digits
 
-signed-snoc : (m : Bool) (ds : List ℕ) (b : ℕ) → signed m ds ++ b ∷ [] ≡ signed m (ds ++ b ∷ [])
+pub signed-snoc : (m : Bool) (ds : List ℕ) (b : ℕ) → signed m ds ++ b ∷ [] ≡ signed m (ds ++ b ∷ [])
 signed-snoc true ds b = refl
 signed-snoc false ds b = refl
 
@@ -110,7 +115,7 @@ module _ (m : Bool) (n : ℕ) (p : List ℕ) where
   shown-part h = record { before = h .before; digits = h .digits; bytes = h .bytes; more = more-digits n (h .digits) (h .some) (h .are) }
 
 pub spaces-part : (k : ℕ) (m : Bool) (p : List ℕ) → p ≡ spaces k ++ signed m [] → Part m 0 p
-spaces-part k m p e = record { before = k; digits = []; bytes = e; more = first-digit }
+spaces-part k m p e = record { before = k; digits = []; bytes = e; more = more-none }
 
 pub blank-part : (k : ℕ) (p : List ℕ) → p ≡ spaces k → Part false 0 p
 blank-part k p e = spaces-part k false p (e ∙ sym (append-nil (spaces k)))
@@ -134,28 +139,15 @@ filled m n j p h e =
 digits-of : (w n : ℕ) → 0 < n → n < 10 ^ w → Digits n (decimal w n)
 digits-of zero n l h = absurd (omega arith)
 digits-of (suc w) n l h = by-digits (Digits n) w n
-    (λ b. subst (λ k. Digits k (digit n ∷ [])) (omega arith) (first-digit n b (omega arith)))
+    (λ b. subst (λ k. Digits k (digit n ∷ [])) (omega arith) (more-none n b (omega arith)))
     (λ b. let e : n / 10 * 10 + n % 10 ≡ n = omega arith in subst (λ k. Digits k (decimal w (n / 10) ++ digit (n % 10) ∷ [])) e (more-digits (n / 10) (decimal w (n / 10)) (omega arith) (digits-of w (n / 10) (omega arith) (omega (arith, pow-suc 10 w))) (n % 10) (omega arith) (omega arith)))
 
--- a beginning of ds and z: all of it, or a beginning of ds
-front-snoc : (t v ds : List ℕ) (z : ℕ) → ds ++ z ∷ [] ≡ t ++ v → (t ≡ ds ++ z ∷ []) ⊎ ((u : List ℕ) × (ds ≡ t ++ u))
-front-snoc [] v ds z e = inr (ds, refl)
-front-snoc (b ∷ []) v [] z e = let h : z ≡ b = cc in inl (rw h)
-front-snoc (b ∷ c ∷ t) v [] z e = absurd (omega (arith, ap length e))
-front-snoc (b ∷ t) v (a ∷ ds) z e = go (front-snoc t v ds z cc)
-  where
-    h : a ≡ b
-    h = cc
-
-    go : (t ≡ ds ++ z ∷ []) ⊎ ((u : List ℕ) × (ds ≡ t ++ u)) → (b ∷ t ≡ a ∷ ds ++ z ∷ []) ⊎ ((u : List ℕ) × (a ∷ ds ≡ b ∷ t ++ u))
-    go (inl f) = inl (ap₂ (λ x y. x ∷ y) (sym h) f)
-    go (inr (u, f)) = inr (u, ap₂ (λ x y. x ∷ y) h f)
-
+-- a beginning of n's digits is all of them, or a beginning of all but the last; one more digit goes on from either
 front-more : (w n : ℕ) (t v : List ℕ) → 0 < n → n < 10 ^ w → decimal w n ≡ t ++ v → (m : ℕ) × More m t
 front-more zero n t v l h e = absurd (omega arith)
 front-more (suc w) n t v l h e = by-digits (λ ds. ds ≡ t ++ v → (ds ≡ decimal (suc w) n) → (m : ℕ) × More m t) w n
-    (λ b e f. go [] n (front-snoc t v [] (digit n) e) f (λ u g. rw (append-eq-nil-iff {p = t} {q = u} .0 (sym g) .0) (0, first-digit)))
-    (λ b e f. go (decimal w (n / 10)) (n % 10) (front-snoc t v (decimal w (n / 10)) (digit (n % 10)) e) f (λ u g. front-more w (n / 10) t u (omega arith) (omega (arith, pow-suc 10 w)) g)) e refl
+    (λ b e f. go [] n (begins-snoc t v [] (digit n) e) f (λ u g. rw (append-eq-nil-iff {p = t} {q = u} .0 (sym g) .0) (0, more-none)))
+    (λ b e f. go (decimal w (n / 10)) (n % 10) (begins-snoc t v (decimal w (n / 10)) (digit (n % 10)) e) f (λ u g. front-more w (n / 10) t u (omega arith) (omega (arith, pow-suc 10 w)) g)) e refl
   where
     go : (ds : List ℕ) (d : ℕ) → (t ≡ ds ++ digit d ∷ []) ⊎ ((u : List ℕ) × (ds ≡ t ++ u)) → ds ++ digit d ∷ [] ≡ decimal (suc w) n → ((u : List ℕ) → ds ≡ t ++ u → (m : ℕ) × More m t) → (m : ℕ) × More m t
     go ds d (inl g) f k = (n, more-digits n t l (subst (Digits n) (sym (g ∙ f)) (digits-of (suc w) n l h)))
@@ -173,6 +165,7 @@ spaces-front (suc k) s (b ∷ p) v e = go (spaces-front k s p v cc)
     go (inl (j, f)) = inl (suc j, ap₂ (λ x y. x ∷ y) (sym h) f)
     go (inr (q, f, g)) = inr (q, ap₂ (λ x y. x ∷ y) (sym h) f, g)
 
+-- it ends in the spaces, at the sign, or in the digits
 pub field-part : (x : Number) (p v : List ℕ) → fits x ≡ true → field x ≡ p ++ v → 0 < length v → (m : Bool) × (n : ℕ) × Part m n p
 unfolding field
 field-part x p v f e l = let k : ℕ = fieldSize - length (signed (x .minus) (decimal fieldSize (x .size))) in begun (x .minus) (x .size) k (fitting x f) (spaces-front k (signed (x .minus) (decimal fieldSize (x .size))) p v e)
@@ -183,7 +176,7 @@ field-part x p v f e l = let k : ℕ = fieldSize - length (signed (x .minus) (de
     -- t begins the digits
     numbered : (m : Bool) (n k : ℕ) (t : List ℕ) → n < 10 ^ fieldSize → p ≡ spaces k ++ signed m t → decimal fieldSize n ≡ t ++ v → (m : Bool) × (n : ℕ) × Part m n p
     numbered m zero k [] b h g = (m, 0, spaces-part k m p h)
-    numbered m zero k (c ∷ t) b h g = absurd (omega (arith, ap length (sym zero-digit ∙ g), length-append t v))
+    numbered m zero k (c ∷ t) b h g = absurd (omega (arith, ap length (sym zero-shown ∙ g), length-append t v))
     numbered m (suc n) k t b h g = let (i, more) = front-more fieldSize (suc n) t v (omega arith) b g in (m, i, record { before = k; digits = t; bytes = h; more = more })
 
     begun : (m : Bool) (n k : ℕ) → Fitting m n → ((j : ℕ) × (p ≡ spaces j)) ⊎ ((q : List ℕ) × (p ≡ spaces k ++ q) × (signed m (decimal fieldSize n) ≡ q ++ v)) → (m : Bool) × (n : ℕ) × Part m n p

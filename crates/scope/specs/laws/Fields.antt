@@ -9,11 +9,12 @@ use mathlib.Core.Logic.{_↔_}
 use mathlib.Core.Option.{some, Option·none-ne-some}
 use mathlib.Core.Path.{_≡_, refl, sym, ap, ap₂, subst, _∙_}
 use lib.Dec.{eqb, leb, ltb}
-use lib.ListN.{length, take, drop, replicate, length-append, length-replicate, length-take, length-drop}
+use lib.ListN.{length, replicate, length-append, length-replicate}
 use borrow.Author.Tests.{eqb-true, eq-eqb, ne-eqb, leb-true, ltb-true, ltb-false}
 use Rattle.scope.specs.Sheet.{Number, number, fieldSize, digit, decimal, signed, justified, field, fits}
 use Rattle.scope.specs.Reading.{same, sizeFrom, hasMinus, guess, when, compared, fieldOf}
 use Rattle.scope.specs.laws.Tests.{clash, both}
+use Rattle.scope.specs.laws.Lists.{length-snoc}
 
 -- ---- bytes compared
 
@@ -31,12 +32,6 @@ same-refl (b ∷ s) = rw (eq-eqb b b refl) (same-refl s)
 
 -- ---- decimal digits
 
-pub part-length : (s : List ℕ) (at n : ℕ) → at + n ≤ length s → length (take n (drop at s)) ≡ n
-part-length s at n h = omega (arith, length-take n (drop at s), length-drop at s)
-
-pub length-snoc : {A : Type 0} (s : List A) (a : A) → length (s ++ a ∷ []) ≡ suc (length s)
-length-snoc s a = omega (arith, length-append s (a ∷ []))
-
 -- by whether one digit is enough
 module _ (P : List ℕ → Type 0) (w n : ℕ) where
   pub by-digits : (n < 10 → P (digit n ∷ [])) → (10 ≤ n → P (decimal w (n / 10) ++ digit (n % 10) ∷ [])) → P (decimal (suc w) n)
@@ -51,6 +46,7 @@ size-snoc : (n : ℕ) (s : List ℕ) (b : ℕ) → sizeFrom n (s ++ b ∷ []) �
 size-snoc n [] b = refl
 size-snoc n (a ∷ s) b = size-snoc (n * 10 + (a - code "0")) s b
 
+-- the digits of n read n again, and none of them is a minus: by the last digit, and those before it
 size-decimal : (w n : ℕ) → n < 10 ^ w → sizeFrom 0 (decimal w n) ≡ n
 unfolding decimal
 size-decimal zero n h = omega arith
@@ -120,6 +116,7 @@ length-field x h = length-justified fieldSize (signed (x .minus) (decimal fieldS
     go true n f = omega (arith, length-decimal fieldSize 4 n (f .signed refl .1) (omega arith))
     go false n f = length-decimal fieldSize fieldSize n (f .small) (omega arith)
 
+-- spaces add nothing to the size, and a minus stands there exactly if the number has one
 guess-field : (x : Number) → fits x ≡ true → guess (field x) ≡ x
 unfolding field
 guess-field x h = go (x .minus) (x .size) (fitting x h)

@@ -11,11 +11,12 @@ use lib.ListN.{length, getD, take, replicate, length-map, List·getD-eq-default,
 use lib.Seq.{getD-at, ext-getD}
 use borrow.Author.Tests.{eqb-true, eqb-false, eq-eqb, ne-eqb, ltb-true, lt-ltb}
 use Rattle.scope.specs.Sheet.{Number, number, plus, Clause, Gate, Sheet, Letter, H, N, A, O, R, W, Z, letterByte, Line, line, filled, headLine, gateLine, ruleLine, wishLine, body, mostLiterals, All, Among, Wish, Valid}
-use Rattle.scope.specs.Reading.{at}
+use Rattle.scope.specs.Causes.{at}
 use Rattle.scope.specs.Tables.{Tables, kindOf, leftOf, rightOf, literalCode, literalFrom, literalAt, Holds}
-use Rattle.scope.specs.Writing.{nowhere, word, entries, kindLine, gateAt, ruleAt, wishAt, tableLines}
+use Rattle.scope.specs.Writing.{entries}
+use Rattle.scope.specs.Checking.{nowhere, word, kindLine, gateAt, ruleAt, wishAt, tableLines}
 use Rattle.scope.specs.laws.Tests.{clash, up-to}
-use Rattle.scope.specs.laws.Inverse.{all-append}
+use Rattle.scope.specs.laws.Alls.{all-true, all-append, all-at, all-map}
 use Rattle.scope.specs.laws.Writing.{length-entries, all-entries, by-kind}
 
 -- ---- columns
@@ -158,15 +159,6 @@ module _ (n : ℕ) (wide : 3 ≤ n) where
 
 -- ---- gates, then rules, then wishes
 
-all-map : {X Y : Type 0} (P : Y → Type 0) (f : X → Y) → ((x : X) → P (f x)) → (xs : List X) → All P (map f xs)
-all-map P f h [] = tt
-all-map P f h (x ∷ xs) = (h x, all-map P f h xs)
-
-all-getD : {X : Type 0} (P : X → Type 0) (d : X) → P d → (xs : List X) → All P xs → (i : ℕ) → P (getD xs i d)
-all-getD P d p [] h i = p
-all-getD P d p (x ∷ xs) (h, hs) zero = h
-all-getD P d p (x ∷ xs) (h, hs) (suc i) = all-getD P d p xs hs i
-
 -- a test of a line's letter
 abbrev Tested : (Letter → Bool) → Bool → Line → Type 0
 Tested test b l = test (l .letter) ≡ b
@@ -209,13 +201,14 @@ kind-letter n u i = by-kind (λ l. Tested aGate true l × Tested noWish true l) 
 
 module _ (n : ℕ) (wide : 3 ≤ n) (u : Tables) (t : Sheet) where
   -- the parts of the lines
-  record Same : Type 0 where
+  record SameParts : Type 0 where
     head : headLine n (t .switches) (t .faults) ≡ headLine n (u .switches) (u .faults)
     gates : map (gateLine n) (t .gates) ≡ entries (gateAt n u) (u .gates)
     rules : map (ruleLine n) (t .rules) ≡ entries (ruleAt n u) (u .rules)
     wishes : map (wishLine n) (t .wishes) ≡ entries (wishAt n u) (u .wishes)
 
-  same-parts : body n t ≡ tableLines n u → Same
+  -- gates, rules and wishes are told apart by their letters, so the same lines have the same parts
+  same-parts : body n t ≡ tableLines n u → SameParts
   unfolding body tableLines
   same-parts e =
       let gs : List Line = map (gateLine n) (t .gates) in
@@ -225,28 +218,29 @@ module _ (n : ℕ) (wide : 3 ≤ n) (u : Tables) (t : Sheet) where
       let rules : List Line = entries (ruleAt n u) (u .rules) in
       let wishes : List Line = entries (wishAt n u) (u .wishes) in
       let (a, w) = split noWish (gs ++ rs) ws (gates ++ rules) wishes
-      (all-append (Tested noWish true) gs rs (all-map (Tested noWish true) (gateLine n) (λ g. gate-letter n g .1) (t .gates)) (all-map (Tested noWish true) (ruleLine n) (λ p. refl) (t .rules)))
-      (all-map (Tested noWish false) (wishLine n) (λ w. refl) (t .wishes))
+      (all-append (Tested noWish true) gs rs (all-map (Tested noWish true) (λ g. Unit {0}) (gateLine n) (λ g h. gate-letter n g .1) (t .gates) (all-true (t .gates))) (all-map (Tested noWish true) (λ p. Unit {0}) (ruleLine n) (λ p h. refl) (t .rules) (all-true (t .rules))))
+      (all-map (Tested noWish false) (λ w. Unit {0}) (wishLine n) (λ w h. refl) (t .wishes) (all-true (t .wishes)))
       (all-append (Tested noWish true) gates rules (all-entries (Tested noWish true) (gateAt n u) (λ i. kind-letter n u i .1) (u .gates)) (all-entries (Tested noWish true) (ruleAt n u) (λ i. refl) (u .rules)))
       (all-entries (Tested noWish false) (wishAt n u) (λ i. refl) (u .wishes)) (cc) in
       let (g, r) = split aGate gs rs gates rules
-      (all-map (Tested aGate true) (gateLine n) (λ g. gate-letter n g .0) (t .gates))
-      (all-map (Tested aGate false) (ruleLine n) (λ p. refl) (t .rules))
+      (all-map (Tested aGate true) (λ g. Unit {0}) (gateLine n) (λ g h. gate-letter n g .0) (t .gates) (all-true (t .gates)))
+      (all-map (Tested aGate false) (λ p. Unit {0}) (ruleLine n) (λ p h. refl) (t .rules) (all-true (t .rules)))
       (all-entries (Tested aGate true) (gateAt n u) (λ i. kind-letter n u i .0) (u .gates))
       (all-entries (Tested aGate false) (ruleAt n u) (λ i. refl) (u .rules)) a in
       record { head = cc; gates = g; rules = r; wishes = w }
 
-  wish-there : Valid t → (i : ℕ) → Wish (t .switches) (getD (t .wishes) i [])
-  wish-there v = all-getD (Wish (t .switches)) [] (omega arith, tt) (t .wishes) (v .wishes)
+  wish-there : Valid t → (i : ℕ) → i < length (t .wishes) → Wish (t .switches) (getD (t .wishes) i [])
+  wish-there v i = all-at (Wish (t .switches)) (t .wishes) [] i (v .wishes)
 
+  -- entry by entry: a line holds the words of its entry in its fields
   pub lines-hold : body n t ≡ tableLines n u → Valid t → Holds u t
   lines-hold e v =
-      let s : Same = same-parts e in
+      let s : SameParts = same-parts e in
       let (k, gates) = entries-map (gateAt n u) (gateLine n) (Gate.not 0) (t .gates) (u .gates) (sym (s .gates)) in
       let (l, rules) = entries-map (ruleAt n u) (ruleLine n) 0 (t .rules) (u .rules) (sym (s .rules)) in
       let (m, wishes) = entries-map (wishAt n u) (wishLine n) [] (t .wishes) (u .wishes) (sym (s .wishes)) in
       let gate : (i : ℕ) → i < length (t .gates) → Word (u .kind) i (kindOf (getD (t .gates) i (Gate.not 0))) × Word (u .left) i (leftOf (getD (t .gates) i (Gate.not 0))) × Word (u .right) i (rightOf (getD (t .gates) i (Gate.not 0))) = λ i h. gate-iff n wide u i (getD (t .gates) i (Gate.not 0)) .0 (gates i h) in
-      let wish : (i : ℕ) → i < length (t .wishes) → Word (u .first) i (literalAt 0 (getD (t .wishes) i [])) × Word (u .second) i (literalAt 1 (getD (t .wishes) i [])) × Word (u .third) i (literalAt 2 (getD (t .wishes) i [])) = λ i h. wish-iff n wide u i (t .switches) (getD (t .wishes) i []) (wish-there v i) .0 (wishes i h) in
+      let wish : (i : ℕ) → i < length (t .wishes) → Word (u .first) i (literalAt 0 (getD (t .wishes) i [])) × Word (u .second) i (literalAt 1 (getD (t .wishes) i [])) × Word (u .third) i (literalAt 2 (getD (t .wishes) i [])) = λ i h. wish-iff n wide u i (t .switches) (getD (t .wishes) i []) (wish-there v i h) .0 (wishes i h) in
       record {
         switches = ap (λ l. at (l .fields) 0 .size) (sym (s .head));
         faults = ap (λ l. at (l .fields) 1 .size) (sym (s .head));
@@ -270,5 +264,5 @@ module _ (n : ℕ) (wide : 3 ≤ n) (u : Tables) (t : Sheet) where
       let rules : entries (ruleAt n u) (u .rules) ≡ map (ruleLine n) (t .rules) = map-entries (ruleAt n u) (ruleLine n) 0 (t .rules) (u .rules) (h .rules)
       (λ i l. rule-iff n wide u i (getD (t .rules) i 0) .1 (column-words (λ p. p) 0 (u .rule) (t .rules) (rw (h .rules) at (h .points) ∙ sym (map-id (t .rules))) i l)) in
       let wishes : entries (wishAt n u) (u .wishes) ≡ map (wishLine n) (t .wishes) = map-entries (wishAt n u) (wishLine n) [] (t .wishes) (u .wishes) (h .wishes)
-      (λ i l. wish-iff n wide u i (t .switches) (getD (t .wishes) i []) (wish-there v i) .1 (column-words (literalAt 0) [] (u .first) (t .wishes) (rw (h .wishes) at (h .firsts)) i l, column-words (literalAt 1) [] (u .second) (t .wishes) (rw (h .wishes) at (h .seconds)) i l, column-words (literalAt 2) [] (u .third) (t .wishes) (rw (h .wishes) at (h .thirds)) i l)) in
+      (λ i l. wish-iff n wide u i (t .switches) (getD (t .wishes) i []) (wish-there v i l) .1 (column-words (literalAt 0) [] (u .first) (t .wishes) (rw (h .wishes) at (h .firsts)) i l, column-words (literalAt 1) [] (u .second) (t .wishes) (rw (h .wishes) at (h .seconds)) i l, column-words (literalAt 2) [] (u .third) (t .wishes) (rw (h .wishes) at (h .thirds)) i l)) in
       rw (h .switches, h .faults, gates, rules, wishes)

@@ -1,6 +1,6 @@
 -- Reading a sheet is the inverse of printing a valid one. Assumes nothing.
 use Prim.Native.Nat.{ℕ, zero, suc, _+_, _-_, _*_, _/_, _%_, _≤_, _<_}
-use native.Mathlib.Nat.{add-zero, add-suc, suc-add, suc-mul, zero-add, div-add-mod', mul-div-cancel, mul-le-mul-right, mul-mod-left}
+use native.Mathlib.Nat.{add-zero, suc-mul, zero-add, div-add-mod', mul-div-cancel, mul-le-mul-right, mul-mod-left}
 use native.Mathlib.Omega.{arith}
 use mathlib.Core.Bool.{Bool, true, false, cond, not, _&&_, and-false}
 use mathlib.Core.List.{List, [], _∷_, _++_, map, append-assoc, append-nil}
@@ -11,11 +11,15 @@ use lib.Dec.{eqb, leb, ltb}
 use lib.ListN.{length, take, drop, replicate, length-append, length-replicate, length-map, replicate-append-replicate}
 use lib.Seq.{take-at, drop-at, take-add, take-all}
 use borrow.Author.Tests.{eqb-true, eq-eqb, ne-eqb, ltb-true, le-leb, lt-ltb}
-use Rattle.scope.specs.Sheet.{Number, plus, Clause, Gate, Sheet, sheet, points, fits, Letter, H, N, A, O, R, W, Z, Line, line, lineBytes, text, filled, headLine, gateLine, ruleLine, wishLine, endLine, body, sheetLines, sheetBytes, mostSwitches, mostFaults, mostGates, mostRules, mostWishes, mostLiterals, All, Among, Names, Ordered, Wish, Valid}
-use Rattle.scope.specs.Reading.{is, point, zeros, literals, clause, at, rows, tests, started, addWish, make, add, accepted, lineSize, mostBytes, lengthOk, lineCount, lineOf, bytesAt, lineAt, testsAt, readFrom, read}
-use Rattle.scope.specs.Causes.{Printed, Met, before, Passed}
+use Rattle.scope.specs.Sheet.{Number, plus, Clause, Gate, Sheet, sheet, points, fits, Letter, H, N, A, O, R, W, Z, Line, line, lineBytes, text, filled, headLine, gateLine, ruleLine, wishLine, endLine, body, sheetLines, sheetBytes, mostSwitches, mostFaults, mostGates, mostRules, mostWishes, mostLiterals, All, Among, Names, Wish, Valid}
+use Rattle.scope.specs.Causes.{is, point, zeros, literals, clause, at, tests, started, addWish, make, accepted, lineSize, mostBytes, lengthOk, lineCount, bytesAt, Met}
+use Rattle.scope.specs.Sheets.{Printed}
+use Rattle.scope.specs.Reading.{testsOf, add, lineOf, lineAt, testsAt, readFrom, read}
+use Rattle.scope.specs.laws.Scans.{before, Passed}
 use Rattle.scope.specs.laws.Tests.{clash, both}
-use Rattle.scope.specs.laws.Fields.{length-snoc}
+use Rattle.scope.specs.laws.Lists.{length-snoc, shorter, to-right}
+use Rattle.scope.specs.laws.Alls.{all-imply, all-append, all-middle, all-replicate, all-map}
+use Rattle.scope.specs.laws.Gates.{ordered-at, ordered-names}
 use Rattle.scope.specs.laws.Lines.{Fit, line-iff, length-line}
 use Rattle.scope.specs.laws.Refusals.{met-none, accepted-iff}
 use Rattle.scope.specs.laws.Steps.{Step, more, done, step, Head, head-step}
@@ -38,14 +42,14 @@ module _ (n : ℕ) (wide : 3 ≤ n) (s : List ℕ) where
   -- a line that is passed
   record Taken (k : ℕ) (l : Line) : Type 0 where
     printed : Printed n (bytesAt n s k) l
-    met : Met (rows (before n s k) k (last k) (l .letter) (l .fields))
+    met : Met (tests (before n s k) k (last k) (l .letter) (l .fields))
     adds : before n s (suc k) ≡ make (before n s k) (l .letter) (l .fields)
 
   taken : (k : ℕ) → Passed n s k → (l : Line) × Taken k l
   unfolding lineAt testsAt before last
   taken k p = go (lineOf n (bytesAt n s k)) refl p
     where
-      go : (o : Option Line) → lineOf n (bytesAt n s k) ≡ o → Met (tests (before n s k) k (last k) o) → (l : Line) × Taken k l
+      go : (o : Option Line) → lineOf n (bytesAt n s k) ≡ o → Met (testsOf (before n s k) k (last k) o) → (l : Line) × Taken k l
       go none e m = clash (m .0) refl
       go (some l) e m = (l, record { printed = line-iff n (bytesAt n s k) l .0 e; met = m; adds = ap (add (before n s k)) e })
 
@@ -118,6 +122,7 @@ lengths n s e =
     positive zero h = absurd (omega arith)
     positive (suc c) h = omega arith
 
+-- after k lines that pass, the bytes are the first k lines of a valid sheet: each line that passes is its next one, the last its end
 read-sound : (n : ℕ) → 3 ≤ n → (s : List ℕ) (u : Sheet) → read n s ≡ accepted u → (s ≡ sheetBytes n u) × Valid u
 unfolding last
 read-sound n wide s u e =
@@ -152,10 +157,6 @@ length-text n (l ∷ r) (g, h) =
     let e : length (lineBytes l) ≡ lineSize n = length-line l (g .fit) ∙ ap lineSize (g .count) in
     omega (arith, length-append (lineBytes l) (text r), length-text n r h, suc-mul (length r) (lineSize n))
 
-pub all-append : {X : Type 0} (P : X → Type 0) (r s : List X) → All P r → All P s → All P (r ++ s)
-all-append P [] s g h = h
-all-append P (x ∷ r) s (p, g) h = (p, all-append P r s g h)
-
 pub from-text : (n : ℕ) (s : List ℕ) (ls pre : List Line) → s ≡ text (pre ++ ls) → All (Good n) pre → All (Good n) ls → From n s (length pre) ls
 unfolding lineAt text
 from-text n s [] pre e g h = end
@@ -168,12 +169,12 @@ from-text n s (l ∷ ls) pre e g (h, i) =
 
 -- one line
 module _ (n : ℕ) (s : List ℕ) where
-  read-next : (m k : ℕ) (t u : Sheet) (l : Line) → lineAt n s k ≡ some l → Met (rows t k (eqb (suc k) (lineCount n s)) (l .letter) (l .fields)) → make t (l .letter) (l .fields) ≡ u → readFrom n s (suc m) k t ≡ readFrom n s m (suc k) u
+  read-next : (m k : ℕ) (t u : Sheet) (l : Line) → lineAt n s k ≡ some l → Met (tests t k (eqb (suc k) (lineCount n s)) (l .letter) (l .fields)) → make t (l .letter) (l .fields) ≡ u → readFrom n s (suc m) k t ≡ readFrom n s m (suc k) u
   unfolding readFrom testsAt
-  read-next m k t u l e p a = rw (e, met-none (rows t k (eqb (suc k) (lineCount n s)) (l .letter) (l .fields)) p, a)
+  read-next m k t u l e p a = rw (e, met-none (tests t k (eqb (suc k) (lineCount n s)) (l .letter) (l .fields)) p, a)
 
   -- one kind of line after another: gates, rules, wishes
-  module _ {X : Type 0} (grow : List X → Sheet) (toLine : X → Line) (whole : List X) (takes : (vs : List X) (w : X) (ws : List X) (k : ℕ) → whole ≡ vs ++ w ∷ ws → 0 < k → Met (rows (grow vs) k false (toLine w .letter) (toLine w .fields)) × (make (grow vs) (toLine w .letter) (toLine w .fields) ≡ grow (vs ++ w ∷ []))) where
+  module _ {X : Type 0} (grow : List X → Sheet) (toLine : X → Line) (whole : List X) (takes : (vs : List X) (w : X) (ws : List X) (k : ℕ) → whole ≡ vs ++ w ∷ ws → 0 < k → Met (tests (grow vs) k false (toLine w .letter) (toLine w .fields)) × (make (grow vs) (toLine w .letter) (toLine w .fields) ≡ grow (vs ++ w ∷ []))) where
     feed : (tail : List Line) (m : ℕ) (ws vs : List X) (k : ℕ) → 0 < k → k + length ws + suc m ≡ lineCount n s → whole ≡ vs ++ ws → From n s k (map toLine ws ++ tail)
         → (readFrom n s (length ws + suc m) k (grow vs) ≡ readFrom n s (suc m) (k + length ws) (grow whole)) × From n s (k + length ws) tail
     feed tail m [] vs k h c e f = rw (add-zero, zero-add, e, append-nil) (refl, f)
@@ -195,8 +196,8 @@ zeros-replicate (suc k) = zeros-replicate k
 plus-point : (m p : ℕ) → Among m p → point m (plus p) ≡ true
 plus-point m p (l, h) = rw (le-leb p m h, lt-ltb 0 p l)
 
-between : (k : ℕ) → 0 < k → (not (eqb k 0) && not false) ≡ true
-between k h = rw (ne-eqb k 0 (λ e. omega arith))
+is-between : (k : ℕ) → 0 < k → (not (eqb k 0) && not false) ≡ true
+is-between k h = rw (ne-eqb k 0 (λ e. omega arith))
 
 -- a clause filled up with zeros reads as itself
 record Clear (a : ℕ) (w xs : List Number) : Type 0 where
@@ -213,21 +214,21 @@ clear a j (x ∷ w) ((l, h), i) =
     record { full = rw (z, le-leb (x .size) a h, lt-ltb 0 (x .size) l) (c .full); back = rw (z, c .back) }
 
 module _ (n : ℕ) (wide : 3 ≤ n) where
-  head-takes : (a f : ℕ) → a ≤ mostSwitches → f ≤ mostFaults → Met (rows (started 0 0) 0 false H (filled n (plus a ∷ plus f ∷ [])))
-  unfolding rows
+  head-takes : (a f : ℕ) → a ≤ mostSwitches → f ≤ mostFaults → Met (tests (started 0 0) 0 false H (filled n (plus a ∷ plus f ∷ [])))
+  unfolding tests
   head-takes a f h i = (refl, (rw (le-leb a mostSwitches h, le-leb f mostFaults i), (zeros-replicate (n - 2), tt)))
 
   gate-takes : (a f : ℕ) (vs : List Gate) (g : Gate) (k : ℕ) → 0 < k → length vs < mostGates → Names (a + f + length vs) g
-      → Met (rows (sheet a f vs [] []) k false (gateLine n g .letter) (gateLine n g .fields)) × (make (sheet a f vs [] []) (gateLine n g .letter) (gateLine n g .fields) ≡ sheet a f (vs ++ g ∷ []) [] [])
-  unfolding rows make
-  gate-takes a f vs (Gate.not p) k h l i = ((rw (between k h), (lt-ltb (length vs) mostGates l, (rw (plus-point (a + f + length vs) p i) (zeros-replicate (n - 1)), tt))), refl)
-  gate-takes a f vs (Gate.and p q) k h l (i, j) = ((rw (between k h), (lt-ltb (length vs) mostGates l, (rw (plus-point (a + f + length vs) p i, plus-point (a + f + length vs) q j) (zeros-replicate (n - 2)), tt))), refl)
-  gate-takes a f vs (Gate.or p q) k h l (i, j) = ((rw (between k h), (lt-ltb (length vs) mostGates l, (rw (plus-point (a + f + length vs) p i, plus-point (a + f + length vs) q j) (zeros-replicate (n - 2)), tt))), refl)
+      → Met (tests (sheet a f vs [] []) k false (gateLine n g .letter) (gateLine n g .fields)) × (make (sheet a f vs [] []) (gateLine n g .letter) (gateLine n g .fields) ≡ sheet a f (vs ++ g ∷ []) [] [])
+  unfolding tests make
+  gate-takes a f vs (Gate.not p) k h l i = ((rw (is-between k h), (lt-ltb (length vs) mostGates l, (rw (plus-point (a + f + length vs) p i) (zeros-replicate (n - 1)), tt))), refl)
+  gate-takes a f vs (Gate.and p q) k h l (i, j) = ((rw (is-between k h), (lt-ltb (length vs) mostGates l, (rw (plus-point (a + f + length vs) p i, plus-point (a + f + length vs) q j) (zeros-replicate (n - 2)), tt))), refl)
+  gate-takes a f vs (Gate.or p q) k h l (i, j) = ((rw (is-between k h), (lt-ltb (length vs) mostGates l, (rw (plus-point (a + f + length vs) p i, plus-point (a + f + length vs) q j) (zeros-replicate (n - 2)), tt))), refl)
 
   rule-takes : (a f : ℕ) (gs : List Gate) (vs : List ℕ) (p k : ℕ) → 0 < k → length vs < mostRules → Among (a + f + length gs) p
-      → Met (rows (sheet a f gs vs []) k false R (filled n (plus p ∷ []))) × (make (sheet a f gs vs []) R (filled n (plus p ∷ [])) ≡ sheet a f gs (vs ++ p ∷ []) [])
-  unfolding rows make
-  rule-takes a f gs vs p k h l i = ((rw (between k h), (lt-ltb (length vs) mostRules l, (rw (plus-point (a + f + length gs) p i) (zeros-replicate (n - 1)), tt))), refl)
+      → Met (tests (sheet a f gs vs []) k false R (filled n (plus p ∷ []))) × (make (sheet a f gs vs []) R (filled n (plus p ∷ [])) ≡ sheet a f gs (vs ++ p ∷ []) [])
+  unfolding tests make
+  rule-takes a f gs vs p k h l i = ((rw (is-between k h), (lt-ltb (length vs) mostRules l, (rw (plus-point (a + f + length gs) p i) (zeros-replicate (n - 1)), tt))), refl)
 
   -- the literal fields of a wish, and the unused ones
   wish-parts : (w : Clause) → length w ≤ mostLiterals → (take mostLiterals (filled n w) ≡ w ++ replicate (mostLiterals - length w) (plus 0)) × (drop mostLiterals (filled n w) ≡ replicate (n - mostLiterals) (plus 0))
@@ -242,15 +243,15 @@ module _ (n : ℕ) (wide : 3 ≤ n) where
       )
 
   wish-takes : (a f : ℕ) (gs : List Gate) (rs : List ℕ) (vs : List Clause) (w : Clause) (k : ℕ) → 0 < k → length vs < mostWishes → Wish a w
-      → Met (rows (sheet a f gs rs vs) k false W (filled n w)) × (make (sheet a f gs rs vs) W (filled n w) ≡ sheet a f gs rs (vs ++ w ∷ []))
-  unfolding rows make
+      → Met (tests (sheet a f gs rs vs) k false W (filled n w)) × (make (sheet a f gs rs vs) W (filled n w) ≡ sheet a f gs rs (vs ++ w ∷ []))
+  unfolding tests make
   wish-takes a f gs rs vs w k h l (m, i) =
       let (p, q) = wish-parts w m in
       let c : Clear a w (w ++ replicate (mostLiterals - length w) (plus 0)) = clear a (mostLiterals - length w) w i in
-      ((between k h, (lt-ltb (length vs) mostWishes l, (ap₂ (λ u v. literals a u && zeros v) p q ∙ rw (c .full) (zeros-replicate (n - mostLiterals)), tt))), ap (λ u. addWish (sheet a f gs rs vs) (clause u)) p ∙ ap (addWish (sheet a f gs rs vs)) (c .back))
+      ((is-between k h, (lt-ltb (length vs) mostWishes l, (ap₂ (λ u v. literals a u && zeros v) p q ∙ rw (c .full) (zeros-replicate (n - mostLiterals)), tt))), ap (λ u. addWish (sheet a f gs rs vs) (clause u)) p ∙ ap (addWish (sheet a f gs rs vs)) (c .back))
 
-  end-takes : (t : Sheet) (k : ℕ) → 0 < k → Met (rows t k true Z (filled n (plus k ∷ [])))
-  unfolding rows
+  end-takes : (t : Sheet) (k : ℕ) → 0 < k → Met (tests t k true Z (filled n (plus k ∷ [])))
+  unfolding tests
   end-takes t k h = (rw (ne-eqb k 0 (λ e. omega arith)), (zeros-replicate (n - 1), (eq-eqb k k refl, tt)))
 
 -- ---- the numbers of a valid sheet fit their fields
@@ -265,27 +266,6 @@ literal-fits x l h = go (x .minus)
     go true = rw (lt-ltb 0 (x .size) l, le-leb (x .size) 9999 h)
     go false = le-leb (x .size) 99999 (omega arith)
 
-zeros-fit : (k : ℕ) → Fit (replicate k (plus 0))
-zeros-fit zero = tt
-zeros-fit (suc k) = (refl, zeros-fit k)
-
-all-map : {X Y : Type 0} (P : Y → Type 0) (Q : X → Type 0) (f : X → Y) → ((x : X) → Q x → P (f x)) → (xs : List X) → All Q xs → All P (map f xs)
-all-map P Q f h [] q = tt
-all-map P Q f h (x ∷ xs) (p, q) = (h x p, all-map P Q f h xs q)
-
-all-more : {X : Type 0} (P Q : X → Type 0) → ((x : X) → P x → Q x) → (xs : List X) → All P xs → All Q xs
-all-more P Q h [] p = tt
-all-more P Q h (x ∷ xs) (p, q) = (h x p, all-more P Q h xs q)
-
-more-names : (m j : ℕ) (g : Gate) → m ≤ j → Names m g → Names j g
-more-names m j (Gate.not p) h (a, b) = (a, omega arith)
-more-names m j (Gate.and p q) h ((a, b), (c, d)) = ((a, omega arith), (c, omega arith))
-more-names m j (Gate.or p q) h ((a, b), (c, d)) = ((a, omega arith), (c, omega arith))
-
-ordered-names : (m j : ℕ) (gs : List Gate) → m + length gs ≤ j → Ordered m gs → All (Names j) gs
-ordered-names m j [] h o = tt
-ordered-names m j (g ∷ gs) h (p, o) = (more-names m j g (omega arith) p, ordered-names (suc m) j gs (omega arith) o)
-
 pub length-filled : (n : ℕ) (xs : List Number) → length xs ≤ n → length (filled n xs) ≡ n
 length-filled n xs h = omega (arith, length-append xs (replicate (n - length xs) (plus 0)), length-replicate (n - length xs) (plus 0))
 
@@ -293,7 +273,7 @@ module _ (n : ℕ) (wide : 3 ≤ n) where
   pub good : (c : Letter) (xs : List Number) → length xs ≤ n → Fit xs → Good n (line c (filled n xs))
   good c xs h f = record {
     count = length-filled n xs h;
-    fit = all-append (λ x. fits x ≡ true) xs (replicate (n - length xs) (plus 0)) f (zeros-fit (n - length xs));
+    fit = all-append (λ x. fits x ≡ true) xs (replicate (n - length xs) (plus 0)) f (all-replicate (λ x. fits x ≡ true) (n - length xs) (plus 0) refl);
   }
 
   good-gate : (g : Gate) → Names 99999 g → Good n (gateLine n g)
@@ -305,12 +285,13 @@ module _ (n : ℕ) (wide : 3 ≤ n) where
   good-rule m p h (a, b) = good R (plus p ∷ []) (omega arith) (plus-fits p (omega arith), tt)
 
   good-wish : (a : ℕ) (w : Clause) → a ≤ mostSwitches → Wish a w → Good n (wishLine n w)
-  good-wish a w h (m, l) = good W w (omega arith) (all-more (λ x. Among a (x .size)) (λ x. fits x ≡ true) (λ x (p, q). literal-fits x p (omega arith)) w l)
+  good-wish a w h (m, l) = good W w (omega arith) (all-imply (λ x. Among a (x .size)) (λ x. fits x ≡ true) (λ x (p, q). literal-fits x p (omega arith)) w l)
 
   pub length-body : (t : Sheet) → length (body n t) ≡ 1 + length (t .gates) + length (t .rules) + length (t .wishes)
   unfolding body
   length-body t = simp (length-append, length-map) (omega arith)
 
+  -- no number of a valid sheet is above its limits, so all of them fit their fields
   pub good-body : (t : Sheet) → Valid t → All (Good n) (body n t)
   unfolding body
   good-body t v =
@@ -335,20 +316,6 @@ module _ (n : ℕ) (wide : 3 ≤ n) where
 
 -- ---- the whole sheet
 
-all-middle : {X : Type 0} (P : X → Type 0) (vs : List X) (w : X) (ws : List X) → All P (vs ++ w ∷ ws) → P w
-all-middle P [] w ws h = h .0
-all-middle P (v ∷ vs) w ws h = all-middle P vs w ws (h .1)
-
-ordered-at : (m : ℕ) (vs : List Gate) (w : Gate) (ws : List Gate) → Ordered m (vs ++ w ∷ ws) → Names (m + length vs) w
-ordered-at m [] w ws h = rw add-zero (h .0)
-ordered-at m (v ∷ vs) w ws h = rw (add-suc, ← suc-add) (ordered-at (suc m) vs w ws (h .1))
-
-shorter : {X : Type 0} (vs : List X) (w : X) (ws : List X) → length vs < length (vs ++ w ∷ ws)
-shorter vs w ws = omega (arith, length-append vs (w ∷ ws))
-
-to-right : (p q r s : List Line) → p ++ q ++ r ++ s ≡ p ++ (q ++ (r ++ s))
-to-right p q r s = simp append-assoc
-
 module _ (n : ℕ) (wide : 3 ≤ n) (t : Sheet) (v : Valid t) (s : List ℕ) (printed : s ≡ sheetBytes n t) where
   abbrev lineTotal : ℕ
   lineTotal = 2 + length (t .gates) + length (t .rules) + length (t .wishes)
@@ -372,6 +339,7 @@ module _ (n : ℕ) (wide : 3 ≤ n) (t : Sheet) (v : Valid t) (s : List ℕ) (pr
   lines : From n s 0 (sheetLines n t)
   lines = from-text n s (sheetLines n t) [] printed tt (good-lines n wide t v)
 
+  -- the head, then the gates, the rules and the wishes, each kind as `feed` has it, and the end
   read-all : readFrom n s lineTotal 0 (started 0 0) ≡ accepted t
   unfolding body readFrom make
   read-all = go (subst (From n s 0) regroup lines)
@@ -397,13 +365,13 @@ module _ (n : ℕ) (wide : 3 ≤ n) (t : Sheet) (v : Valid t) (s : List ℕ) (pr
       regroup : sheetLines n t ≡ headLine n a f ∷ (map (gateLine n) gs ++ (map (ruleLine n) rs ++ (map (wishLine n) ws ++ z)))
       regroup = ap (λ m. headLine n a f ∷ m) (to-right (map (gateLine n) gs) (map (ruleLine n) rs) (map (wishLine n) ws) z)
 
-      gates : (vs : List Gate) (w : Gate) (us : List Gate) (k : ℕ) → gs ≡ vs ++ w ∷ us → 0 < k → Met (rows (sheet a f vs [] []) k false (gateLine n w .letter) (gateLine n w .fields)) × (make (sheet a f vs [] []) (gateLine n w .letter) (gateLine n w .fields) ≡ sheet a f (vs ++ w ∷ []) [] [])
+      gates : (vs : List Gate) (w : Gate) (us : List Gate) (k : ℕ) → gs ≡ vs ++ w ∷ us → 0 < k → Met (tests (sheet a f vs [] []) k false (gateLine n w .letter) (gateLine n w .fields)) × (make (sheet a f vs [] []) (gateLine n w .letter) (gateLine n w .fields) ≡ sheet a f (vs ++ w ∷ []) [] [])
       gates vs w us k e h = gate-takes n wide a f vs w k h (omega (arith, ap length e, shorter vs w us, v .few-gates)) (ordered-at (a + f) vs w us (rw e at (v .gates)))
 
-      rules : (vs : List ℕ) (w : ℕ) (us : List ℕ) (k : ℕ) → rs ≡ vs ++ w ∷ us → 0 < k → Met (rows (sheet a f gs vs []) k false R (filled n (plus w ∷ []))) × (make (sheet a f gs vs []) R (filled n (plus w ∷ [])) ≡ sheet a f gs (vs ++ w ∷ []) [])
+      rules : (vs : List ℕ) (w : ℕ) (us : List ℕ) (k : ℕ) → rs ≡ vs ++ w ∷ us → 0 < k → Met (tests (sheet a f gs vs []) k false R (filled n (plus w ∷ []))) × (make (sheet a f gs vs []) R (filled n (plus w ∷ [])) ≡ sheet a f gs (vs ++ w ∷ []) [])
       rules vs w us k e h = rule-takes n wide a f gs vs w k h (omega (arith, ap length e, shorter vs w us, v .few-rules)) (all-middle (Among (points t)) vs w us (rw e at (v .rules)))
 
-      wishes : (vs : List Clause) (w : Clause) (us : List Clause) (k : ℕ) → ws ≡ vs ++ w ∷ us → 0 < k → Met (rows (sheet a f gs rs vs) k false W (filled n w)) × (make (sheet a f gs rs vs) W (filled n w) ≡ sheet a f gs rs (vs ++ w ∷ []))
+      wishes : (vs : List Clause) (w : Clause) (us : List Clause) (k : ℕ) → ws ≡ vs ++ w ∷ us → 0 < k → Met (tests (sheet a f gs rs vs) k false W (filled n w)) × (make (sheet a f gs rs vs) W (filled n w) ≡ sheet a f gs rs (vs ++ w ∷ []))
       wishes vs w us k e h = wish-takes n wide a f gs rs vs w k h (omega (arith, ap length e, shorter vs w us, v .few-wishes)) (all-middle (Wish a) vs w us (rw e at (v .wishes)))
 
       last : (k : ℕ) → k ≡ length (body n t) → 0 < k → suc k ≡ lineCount n s → From n s k z → readFrom n s 1 k t ≡ accepted t

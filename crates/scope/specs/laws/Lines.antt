@@ -13,8 +13,9 @@ use lib.ListN.{length, take, drop, length-append, take-append-drop}
 use lib.Seq.{take-at, drop-at}
 use borrow.Author.Tests.{eqb-true}
 use Rattle.scope.specs.Sheet.{Number, fieldSize, field, fits, Letter, H, N, A, O, R, W, Z, letterByte, Line, line, fieldsBytes, lineBytes, All}
-use Rattle.scope.specs.Reading.{same, fieldOf, also, fieldsOf, letterFrom, letterOf, joined, lineOf, lineSize}
-use Rattle.scope.specs.Causes.{Printed}
+use Rattle.scope.specs.Causes.{lineSize}
+use Rattle.scope.specs.Sheets.{Printed}
+use Rattle.scope.specs.Reading.{same, fieldOf, also, fieldsOf, letterFrom, letterOf, joined, lineOf}
 use Rattle.scope.specs.laws.Fields.{same-true, length-field, when-some, field-iff}
 
 -- ---- fields

@@ -9,7 +9,7 @@ use mathlib.Core.Path.{_≡_, refl, ap}
 use lib.Dec.{eqb}
 use lib.ListN.{length, getD, replicate, length-append}
 use Rattle.scope.specs.Sheet.{Sheet, mostSwitches, mostWishes, All, Valid}
-use Rattle.scope.specs.Reading.{Read, accepted, refused}
+use Rattle.scope.specs.Causes.{Read, accepted, refused}
 use Rattle.scope.specs.Source.{Refusal, Source}
 use Rattle.scope.specs.Meaning.{bits, patterns, kept}
 use Rattle.scope.specs.Rule.{Verdict, plan, noPlan, noRoom, rule}
@@ -17,7 +17,8 @@ use Rattle.scope.specs.Jobs.{task, Result, result, Answer, answerOf}
 use Rattle.scope.specs.Demands.{listed}
 use Rattle.scope.specs.Program.{Row, row, one, each, third, switchRow, wishRow, patternRow, planRows, foundRows, answerRows, ended, room, outputRows}
 use Rattle.scope.specs.laws.Lines.{Fit}
-use Rattle.scope.specs.laws.Inverse.{plus-fits, all-append}
+use Rattle.scope.specs.laws.Alls.{all-true, all-append, at-all}
+use Rattle.scope.specs.laws.Inverse.{plus-fits}
 use Rattle.scope.specs.laws.Points.{length-bits}
 use Rattle.scope.specs.laws.Wishes.{cost-small}
 use Rattle.scope.specs.laws.Rules.{words-below, length-patterns}
@@ -43,14 +44,6 @@ each-fits : {A : Type 0} (P : A → Type 0) (f : ℕ → A → Row) → ((i : �
 unfolding each
 each-fits P f h i [] l p = tt
 each-fits P f h i (a ∷ s) l (p, q) = (h i a (omega arith) p, each-fits P f h (suc i) s (omega arith) q)
-
-all-true : {A : Type 0} (s : List A) → All (λ a. Unit {0}) s
-all-true [] = tt
-all-true (a ∷ s) = (tt, all-true s)
-
-all-getD : (P : ℕ → Type 0) (s : List ℕ) → ((i : ℕ) → i < length s → P (getD s i 0)) → All P s
-all-getD P [] h = tt
-all-getD P (a ∷ s) h = (h 0 (omega arith), all-getD P s (λ i g. h (suc i) (omega arith)))
 
 one-small : (b : Bool) → one b ≤ top
 one-small true = omega arith
@@ -97,6 +90,7 @@ module _ (t : Sheet) (v : Valid t) where
       go true = length-plan (r .plan)
       go false = omega arith
 
+  -- at most 65536 patterns are listed and few rows stand besides, so the rows' numbers and count fit, as do costs and patterns
   answer-fits : (lent : List ℕ) → All Fits (ended (answerRows (accepted t) (answerOf (accepted t) lent)))
   answer-fits lent =
       let a : Answer = answerOf (accepted t) lent in
@@ -110,7 +104,7 @@ module _ (t : Sheet) (v : Valid t) where
         row-fits "A" (r .number) (r .place) (third r) (m .number) (m .place) (m .third),
         all-append Fits found words (found-fits r)
             (each-fits (λ q. q ≤ top) patternRow (λ i q h g. row-fits "F" i q 0 h g (omega arith)) 1 (listed a) (omega (arith, most-patterns))
-            (all-getD (λ q. q ≤ top) (listed a) (λ i h. omega (arith, words-below (task t) (listed a) (listed-ruled t lent) i h, most-patterns)))),
+            (at-all (λ q. q ≤ top) (listed a) 0 (λ i h. omega (arith, words-below (task t) (listed a) (listed-ruled t lent) i h, most-patterns)))),
       )
       (row-fits "Z" (length (row "A" (r .number) (r .place) (third r) ∷ found ++ words)) 0 0 count (omega arith) (omega arith), tt)
 

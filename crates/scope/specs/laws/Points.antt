@@ -12,7 +12,7 @@ use lib.Seq.{getD-append-seam, getD-append-add}
 use borrow.Author.Tests.{eqb-true, eqb-false, eq-eqb, ne-eqb}
 use Rattle.scope.specs.Sheet.{Gate, Sheet, Among, Names, Ordered}
 use Rattle.scope.specs.Meaning.{bits, nth, gateTruth, truths, switchOn, truth}
-use Rattle.scope.specs.laws.Fields.{length-snoc}
+use Rattle.scope.specs.laws.Lists.{length-snoc}
 
 -- ---- digits
 
@@ -36,6 +36,7 @@ odd k = go (eqb (k % 2) 1) refl
     go true e = sym (eqb-true (k % 2) 1 e)
     go false e = let f : k % 2 ≢ 1 = eqb-false (k % 2) 1 e in omega arith
 
+-- by the last digit: what is before it reads half of k
 pub value-bits : (n k : ℕ) → k < 2 ^ n → value 0 (bits n k) ≡ k
 unfolding bits value
 value-bits zero k h = omega arith
@@ -96,6 +97,7 @@ value-high c v =
     pos zero = omega arith
     pos (suc n) = omega (arith, pow-suc 2 n, pos n)
 
+-- by the first digit: the value divided by the worth of the digits after it
 pub bits-value : (c : ℕ) (v : List Bool) → bits (length v) (value c v) ≡ v
 unfolding bits value
 bits-value c [] = refl
@@ -117,6 +119,7 @@ gate-same (Gate.not p) n u v e h = rw (e p h)
 gate-same (Gate.and p q) n u v e h = rw (e p (h .0), e q (h .1))
 gate-same (Gate.or p q) n u v e h = rw (e p (h .0), e q (h .1))
 
+-- what is put behind a point changes no point before it, and a gate names only those
 truths-gate : (gs : List Gate) (v : List Bool) (d : Gate) → Ordered (length v) gs → (i : ℕ) → i < length gs → getD (truths v gs) (length v + i) false ≡ gateTruth (nth (truths v gs)) (getD gs i d)
 unfolding truths
 truths-gate [] v d o i h = absurd (omega arith)

@@ -17,16 +17,13 @@ use Rattle.scope.specs.Reading.{when}
 use Rattle.scope.specs.Typed.{Formula, Typed, typed, Gap, Level, ors, ands, factor, Written, RuleLines, Writable, Legal, mostNested, mostNumber, numeral, literalBytes, literalsBytes, wishLines}
 use Rattle.scope.specs.Parsing.{Around, nested, Slot, State, feed, addRule, addWish, operandDone, numberDone, joinedOr, outside, closed, fed, isDigit, digitOf, zeroOk, Arm, on, nestedMore, operandArms, signArms, move, step, start}
 use Rattle.scope.specs.laws.Tests.{clash, both}
-use Rattle.scope.specs.laws.Fields.{length-snoc}
-use Rattle.scope.specs.laws.Steps.{all-snoc}
+use Rattle.scope.specs.laws.Lists.{length-snoc, to-right}
+use Rattle.scope.specs.laws.Alls.{all-snoc}
 
 -- ---- a text so far, and what is put behind it
 
 rule-behind : (h t r s : List ℕ) → h ++ code "\n" ∷ t ++ [] ++ r ++ s ++ feed ≡ h ++ code "\n" ∷ (t ++ (r ++ s ++ feed)) ++ []
 rule-behind h t r s = simp (append-assoc, append-nil)
-
-wish-behind : (p s t u : List ℕ) → p ++ s ++ t ++ u ≡ p ++ (s ++ (t ++ u))
-wish-behind p s t u = simp append-assoc
 
 literal-behind : (p s t u n : List ℕ) → p ++ (s ++ t) ++ u ++ n ≡ p ++ (s ++ (t ++ (u ++ n)))
 literal-behind p s t u n = simp append-assoc
@@ -147,7 +144,7 @@ module _ {v : Typed} {p : List ℕ} (l : Legal v p) where
     rules = l .rules;
     written = l .written;
     text = ap (λ q. q ++ (bytes "wish" ++ literalsBytes w) ++ feed) (l .text)
-        ∙ wish-behind (headed v ++ code "\n" ∷ l .rules) (wishLines (v .wishes)) (bytes "wish" ++ literalsBytes w) feed
+        ∙ to-right (headed v ++ code "\n" ∷ l .rules) (wishLines (v .wishes)) (bytes "wish" ++ literalsBytes w) feed
         ∙ ap (λ s. headed v ++ code "\n" ∷ l .rules ++ s) (sym (wishes-snoc (v .wishes) w));
   }
 
@@ -288,6 +285,7 @@ digit-moves b slot p h = next-cond (p ++ b ∷ []) (eqb b (code "0")) (when (zer
     (λ e. next-when (p ++ b ∷ []) (zeroOk slot) (numberDone slot 0) (λ z. rw (eqb-true b (code "0") e) (number-done 0 h (λ f. clash z f) (omega arith))))
     (λ e. next-when (p ++ b ∷ []) (isDigit b) (State.second slot (digitOf b)) (digit-reached b slot p h (eqb-false b (code "0") e)))
 
+-- by the state: each of its arms puts one byte behind the text, and what is said of the next state holds with it
 move-reached : (b : ℕ) {st : State} {p : List ℕ} → Reached st p → Next (p ++ b ∷ []) (move st b)
 unfolding move
 move-reached b (word {w = w} {st = st} {p = p} h r) = word-moves b w st p r

@@ -11,30 +11,32 @@ use lib.Dec.{eqb}
 use lib.ListN.{length, drop}
 use borrow.Author.Tests.{eqb-true}
 use Rattle.scope.specs.Sheet.{Number, Sheet, Letter, H, N, A, O, R, W, Z, Line, mostSwitches, mostFaults, All}
-use Rattle.scope.specs.Reading.{upTo, at, zeros, Row, firstFault, rows, tests, started, accepted, refused, lineOf, lineSize, lengthOk, lineCount, bytesAt, lineAt, columnAt, testsAt, readFrom, read}
-use Rattle.scope.specs.Causes.{Column, stopped, wellFormed, Met, First, here, later, before, Passed, Cause, size, line, NoCause, SheetRefusal, wrongLength, malformed, wrongLetter, outOfRange, tooMany, wrongField, wrongCount}
+use Rattle.scope.specs.Causes.{upTo, at, zeros, Test, tests, started, accepted, refused, lineSize, lengthOk, lineCount, bytesAt, Met, First, here, later}
+use Rattle.scope.specs.Sheets.{SheetRefusal, wrongLength, malformed, wrongLetter, outOfRange, tooMany, wrongField, wrongCount}
+use Rattle.scope.specs.Reading.{firstFault, testsOf, lineOf, lineAt, columnAt, testsAt, readFrom, read}
+use Rattle.scope.specs.laws.Scans.{Column, stopped, wellFormed, before, Passed, Cause, size, line, NoCause}
 use Rattle.scope.specs.laws.Tests.{both, up-to}
-use Rattle.scope.specs.laws.Fields.{part-length}
+use Rattle.scope.specs.laws.Lists.{part-length}
 use Rattle.scope.specs.laws.Lines.{line-iff}
 use Rattle.scope.specs.laws.Beginnings.{stops-within, column-is, column-found}
 
 -- ---- the first unmet test
 
-pub met : (rs : List Row) → firstFault rs ≡ none → Met rs
+pub met : (rs : List Test) → firstFault rs ≡ none → Met rs
 met [] e = tt
 met ((n, true) ∷ rs) e = (refl, met rs e)
 met ((n, false) ∷ rs) e = absurd (Option·none-ne-some n (sym e))
 
-pub met-none : (rs : List Row) → Met rs → firstFault rs ≡ none
+pub met-none : (rs : List Test) → Met rs → firstFault rs ≡ none
 met-none [] m = refl
 met-none (r ∷ rs) (e, m) = rw e (met-none rs m)
 
-pub first : (c : ℕ) (rs : List Row) → firstFault rs ≡ some c → First c rs
+pub first : (c : ℕ) (rs : List Test) → firstFault rs ≡ some c → First c rs
 first c [] e = absurd (Option·none-ne-some c e)
 first c ((m, true) ∷ rs) e = later (first c rs e)
 first c ((m, false) ∷ rs) e = subst (λ x. First x ((m, false) ∷ rs)) (Option·some-injective m c e) here
 
-pub first-some : {c : ℕ} {rs : List Row} → First c rs → firstFault rs ≡ some c
+pub first-some : {c : ℕ} {rs : List Test} → First c rs → firstFault rs ≡ some c
 first-some here = refl
 first-some (later f) = first-some f
 
@@ -87,7 +89,7 @@ module _ (n : ℕ) (s : List ℕ) where
   pub line-within : (k : ℕ) → k < lineCount n s → k * lineSize n + lineSize n ≤ length s
   line-within k h = let i : suc k ≤ lineCount n s = omega arith in omega (arith, suc-mul k (lineSize n), mul-le-mul-right (lineSize n) i, div-add-mod' (length s) (lineSize n))
 
-  whole-line : (k : ℕ) → k < lineCount n s → length (bytesAt n s k) ≡ lineSize n
+  pub whole-line : (k : ℕ) → k < lineCount n s → length (bytesAt n s k) ≡ lineSize n
   whole-line k h = part-length s (k * lineSize n) (lineSize n) (line-within k h)
 
   pub column-of : (k : ℕ) → k < lineCount n s → Column n (bytesAt n s k) (columnAt n s k)
@@ -131,15 +133,15 @@ module _ (n : ℕ) (s : List ℕ) where
 
 -- ---- which numbers
 
-pub first-in : (P : ℕ → Type 0) (rs : List Row) → All (λ r. P (r .0)) rs → {c : ℕ} → First c rs → P c
+pub first-in : (P : ℕ → Type 0) (rs : List Test) → All (λ r. P (r .0)) rs → {c : ℕ} → First c rs → P c
 first-in P rs a f = go f a
   where
-    go : {c : ℕ} {rs : List Row} → First c rs → All (λ r. P (r .0)) rs → P c
+    go : {c : ℕ} {rs : List Test} → First c rs → All (λ r. P (r .0)) rs → P c
     go here (p, a) = p
     go (later f) (p, a) = go f a
 
 -- past the first test, which is met if it is not the one
-first-cons : (m : ℕ) (b : Bool) (rs : List Row) {c : ℕ} → First c ((m, b) ∷ rs) → (c ≡ m) ⊎ ((b ≡ true) × First c rs)
+first-cons : (m : ℕ) (b : Bool) (rs : List Test) {c : ℕ} → First c ((m, b) ∷ rs) → (c ≡ m) ⊎ ((b ≡ true) × First c rs)
 first-cons m true rs f = inr (refl, tail f)
   where
     tail : {c : ℕ} → First c ((m, true) ∷ rs) → First c rs
@@ -149,22 +151,23 @@ first-cons m false rs f = inl (head f)
     head : {c : ℕ} → First c ((m, false) ∷ rs) → c ≡ m
     head here = refl
 
-rows-number : (w : ℕ) (t : Sheet) (k : ℕ) (last : Bool) (c : Letter) (xs : List Number) {m : ℕ} → First m (rows t k last c xs) → SheetRefusal w m (suc k) 0
-unfolding rows
-rows-number w t k last H xs {m} f = go (first-cons 3 (eqb k 0 && not last) ((4, upTo mostSwitches (at xs 0) && upTo mostFaults (at xs 1)) ∷ (6, zeros (drop 2 xs)) ∷ []) f)
+-- every test has one of these numbers; 4 is told of line 1 alone, since the test before it asks that H be the first line
+letter-number : (w : ℕ) (t : Sheet) (k : ℕ) (last : Bool) (c : Letter) (xs : List Number) {m : ℕ} → First m (tests t k last c xs) → SheetRefusal w m (suc k) 0
+unfolding tests
+letter-number w t k last H xs {m} f = go (first-cons 3 (eqb k 0 && not last) ((4, upTo mostSwitches (at xs 0) && upTo mostFaults (at xs 1)) ∷ (6, zeros (drop 2 xs)) ∷ []) f)
   where
     go : (m ≡ 3) ⊎ (((eqb k 0 && not last) ≡ true) × First m ((4, upTo mostSwitches (at xs 0) && upTo mostFaults (at xs 1)) ∷ (6, zeros (drop 2 xs)) ∷ [])) → SheetRefusal w m (suc k) 0
     go (inl e) = rw e wrongLetter
     go (inr (b, g)) = let z : k ≡ 0 = eqb-true k 0 (both (eqb k 0) (not last) b .0) in rw z (first-in (λ c. SheetRefusal w c 1 0) ((4, upTo mostSwitches (at xs 0) && upTo mostFaults (at xs 1)) ∷ (6, zeros (drop 2 xs)) ∷ []) (outOfRange, (wrongField, tt)) g)
-rows-number w t k last N xs f = first-in (λ c. SheetRefusal w c (suc k) 0) (rows t k last N xs) (wrongLetter, (tooMany, (wrongField, tt))) f
-rows-number w t k last A xs f = first-in (λ c. SheetRefusal w c (suc k) 0) (rows t k last A xs) (wrongLetter, (tooMany, (wrongField, tt))) f
-rows-number w t k last O xs f = first-in (λ c. SheetRefusal w c (suc k) 0) (rows t k last O xs) (wrongLetter, (tooMany, (wrongField, tt))) f
-rows-number w t k last R xs f = first-in (λ c. SheetRefusal w c (suc k) 0) (rows t k last R xs) (wrongLetter, (tooMany, (wrongField, tt))) f
-rows-number w t k last W xs f = first-in (λ c. SheetRefusal w c (suc k) 0) (rows t k last W xs) (wrongLetter, (tooMany, (wrongField, tt))) f
-rows-number w t k last Z xs f = first-in (λ c. SheetRefusal w c (suc k) 0) (rows t k last Z xs) (wrongLetter, (wrongField, (wrongCount, tt))) f
+letter-number w t k last N xs f = first-in (λ c. SheetRefusal w c (suc k) 0) (tests t k last N xs) (wrongLetter, (tooMany, (wrongField, tt))) f
+letter-number w t k last A xs f = first-in (λ c. SheetRefusal w c (suc k) 0) (tests t k last A xs) (wrongLetter, (tooMany, (wrongField, tt))) f
+letter-number w t k last O xs f = first-in (λ c. SheetRefusal w c (suc k) 0) (tests t k last O xs) (wrongLetter, (tooMany, (wrongField, tt))) f
+letter-number w t k last R xs f = first-in (λ c. SheetRefusal w c (suc k) 0) (tests t k last R xs) (wrongLetter, (tooMany, (wrongField, tt))) f
+letter-number w t k last W xs f = first-in (λ c. SheetRefusal w c (suc k) 0) (tests t k last W xs) (wrongLetter, (tooMany, (wrongField, tt))) f
+letter-number w t k last Z xs f = first-in (λ c. SheetRefusal w c (suc k) 0) (tests t k last Z xs) (wrongLetter, (wrongField, (wrongCount, tt))) f
 
 -- 2 is the number of a line that stops, and all others are of well-formed ones
-tests-number : (n : ℕ) (t : Sheet) (k : ℕ) (last : Bool) (s : List ℕ) → length s ≡ lineSize n → {m column : ℕ} → First m (tests t k last (lineOf n s)) → Column n s column → SheetRefusal n m (suc k) column
+tests-number : (n : ℕ) (t : Sheet) (k : ℕ) (last : Bool) (s : List ℕ) → length s ≡ lineSize n → {m column : ℕ} → First m (testsOf t k last (lineOf n s)) → Column n s column → SheetRefusal n m (suc k) column
 tests-number n t k last s l f w = go (lineOf n s) refl f w
   where
     stop : {c : ℕ} → lineOf n s ≡ none → Column n s c → SheetRefusal n 2 (suc k) c
@@ -175,11 +178,11 @@ tests-number n t k last s l f w = go (lineOf n s) refl f w
         within (suc c) (a, b) = malformed {c = c} (omega arith)
     stop e (wellFormed x h) = absurd (Option·none-ne-some x (sym e ∙ line-iff n s x .1 h))
 
-    go : {m c : ℕ} (o : Option Line) → lineOf n s ≡ o → First m (tests t k last o) → Column n s c → SheetRefusal n m (suc k) c
+    go : {m c : ℕ} (o : Option Line) → lineOf n s ≡ o → First m (testsOf t k last o) → Column n s c → SheetRefusal n m (suc k) c
     go none e here w = stop e w
     go {c} (some x) e f w =
         let z : c ≡ 0 = sym (column-is n s c w) ∙ column-is n s 0 (wellFormed x (line-iff n s x .0 e)) in
-        rw z (rows-number n t k last (x .letter) (x .fields) f)
+        rw z (letter-number n t k last (x .letter) (x .fields) f)
 
 pub cause-number : (n : ℕ) (s : List ℕ) {c place column : ℕ} → Cause n s c place column → SheetRefusal n c place column
 unfolding testsAt lineAt

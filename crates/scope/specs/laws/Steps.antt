@@ -1,20 +1,21 @@
 -- A line that passes its tests is the next line of a valid sheet, printed. Assumes nothing.
-use Prim.Native.Nat.{ℕ, zero, suc, _+_, _-_, _≤_, _<_}
-use native.Mathlib.Nat.{add-zero, add-suc, suc-add, sub-zero}
+use Prim.Native.Nat.{ℕ, suc, _+_, _-_, _≤_, _<_}
+use native.Mathlib.Nat.{sub-zero}
 use native.Mathlib.Omega.{arith}
 use mathlib.Core.Bool.{Bool, true, false, cond, not, _&&_}
 use mathlib.Core.List.{List, [], _∷_, _++_, map, append-assoc, append-nil, map-append}
 use mathlib.Core.Logic.{_≢_}
 use mathlib.Core.Path.{_≡_, refl, sym, ap, ap₂, _∙_}
 use lib.Dec.{eqb, leb, ltb}
-use lib.ListN.{length, getD, take, drop, replicate, length-drop, take-append-drop, replicate-append-replicate}
+use lib.ListN.{length, take, drop, replicate, length-drop, take-append-drop, replicate-append-replicate}
 use lib.Seq.{take-suc, length-take-le}
 use borrow.Author.Tests.{eqb-true, leb-true, ltb-true, not-true}
-use Rattle.scope.specs.Sheet.{Number, number, plus, Clause, Gate, Sheet, points, Letter, H, N, A, O, R, W, Z, Line, line, filled, headLine, gateLine, ruleLine, wishLine, endLine, body, mostSwitches, mostFaults, mostGates, mostRules, mostWishes, mostLiterals, All, Among, Names, Ordered, Wish, Valid}
-use Rattle.scope.specs.Reading.{is, upTo, point, literal, zeros, literals, clause, at, empty, rows, started, addGate, addRule, addWish, make}
-use Rattle.scope.specs.Causes.{Met}
+use Rattle.scope.specs.Sheet.{Number, number, plus, Clause, Gate, Sheet, points, Letter, H, N, A, O, R, W, Z, Line, line, filled, headLine, gateLine, ruleLine, wishLine, endLine, body, mostSwitches, mostFaults, mostGates, mostRules, mostWishes, mostLiterals, All, Among, Names, Wish, Valid}
+use Rattle.scope.specs.Causes.{is, upTo, point, literal, zeros, literals, clause, at, empty, tests, started, addGate, addRule, addWish, make, Met}
 use Rattle.scope.specs.laws.Tests.{clash, both}
-use Rattle.scope.specs.laws.Fields.{length-snoc}
+use Rattle.scope.specs.laws.Lists.{length-snoc}
+use Rattle.scope.specs.laws.Alls.{all-snoc}
+use Rattle.scope.specs.laws.Gates.{ordered-snoc}
 
 -- ---- tests and what they say
 
@@ -78,6 +79,7 @@ record Literals (a : ℕ) (xs : List Number) (w : Clause) : Type 0 where
   literals : All (λ x. Among a (x .size)) w
   rest : xs ≡ w ++ replicate (length xs - length w) (plus 0)
 
+-- the first 0 ends the literals, and the rest is zeros
 literals-clause : (a : ℕ) (xs : List Number) → literals a xs ≡ true → Literals a xs (clause xs)
 unfolding literals clause
 literals-clause a [] e = record { short = omega arith; literals = tt; rest = refl }
@@ -108,24 +110,6 @@ module _ (n : ℕ) where
       )
 
 -- ---- one more gate, rule or wish: still valid, and one more line
-
-pub all-snoc : {A : Type 0} (P : A → Type 0) (s : List A) (a : A) → All P s → P a → All P (s ++ a ∷ [])
-all-snoc P [] a h p = (p, tt)
-all-snoc P (b ∷ s) a h p = (h .0, all-snoc P s a (h .1) p)
-
-pub all-at : {A : Type 0} (P : A → Type 0) (s : List A) (d : A) (i : ℕ) → All P s → i < length s → P (getD s i d)
-all-at P [] d i h l = absurd (omega arith)
-all-at P (a ∷ s) d zero h l = h .0
-all-at P (a ∷ s) d (suc i) h l = all-at P s d i (h .1) (omega arith)
-
-pub all-take : {A : Type 0} (P : A → Type 0) (k : ℕ) (s : List A) → All P s → All P (take k s)
-all-take P zero s h = tt
-all-take P (suc k) [] h = tt
-all-take P (suc k) (a ∷ s) h = (h .0, all-take P k s (h .1))
-
-ordered-snoc : (m : ℕ) (gs : List Gate) (g : Gate) → Ordered m gs → Names (m + length gs) g → Ordered m (gs ++ g ∷ [])
-ordered-snoc m [] g h p = (rw add-zero at p, tt)
-ordered-snoc m (b ∷ gs) g h p = (h .0, ordered-snoc (suc m) gs g (h .1) (rw (add-suc, ← suc-add) at p))
 
 module _ (t : Sheet) (v : Valid t) where
   valid-gate : (g : Gate) → t .rules ≡ [] → length (t .gates) < mostGates → Names (points t) g → Valid (addGate t g)
@@ -215,8 +199,9 @@ module _ (n : ℕ) (wide : 3 ≤ n) (t : Sheet) (v : Valid t) (k : ℕ) (last : 
       let (g, j) = point-plus (points t) (at xs 1) q in
       gate-step c (gate (at xs 0 .size) (at xs 1 .size)) m (ap (line c) (two-fields n xs (at xs 0 .size) (at xs 1 .size) count wide f g z) ∙ l (at xs 0 .size) (at xs 1 .size)) e3 e5 (names (at xs 0 .size) (at xs 1 .size) i j)
 
-  pub step : (c : Letter) → k ≢ 0 → Met (rows t k last c xs) → Step c
-  unfolding rows make
+  -- by the letter: the tests say that the fields are those of one more gate, rule or wish, printed
+  pub step : (c : Letter) → k ≢ 0 → Met (tests t k last c xs) → Step c
+  unfolding tests make
   step H h m = absurd (h (eqb-true k 0 (both (eqb k 0) (not last) (m .0) .0)))
   step N h m =
       let (a, z) = both (point (points t) (at xs 0)) (zeros (drop 1 xs)) (m .1 .1 .0) in
@@ -243,8 +228,8 @@ pub record Head (n : ℕ) (last : Bool) (c : Letter) (xs : List Number) : Type 0
   pub valid : Valid (make (started 0 0) c xs)
   pub lines : body n (make (started 0 0) c xs) ≡ line c xs ∷ []
 
-pub head-step : (n : ℕ) → 3 ≤ n → (last : Bool) (c : Letter) (xs : List Number) → length xs ≡ n → Met (rows (started 0 0) 0 last c xs) → Head n last c xs
-unfolding rows make body
+pub head-step : (n : ℕ) → 3 ≤ n → (last : Bool) (c : Letter) (xs : List Number) → length xs ≡ n → Met (tests (started 0 0) 0 last c xs) → Head n last c xs
+unfolding tests make body
 head-step n wide last H xs count m =
     let (a, b) = both (upTo mostSwitches (at xs 0)) (upTo mostFaults (at xs 1)) (m .1 .0) in
     let (p, h) = up-plus mostSwitches (at xs 0) a in

@@ -10,9 +10,9 @@ use mathlib.Core.Path.{_≡_, refl, sym, ap, subst, _∙_}
 use lib.ListN.{length, take, drop, length-drop, take-append-drop}
 use borrow.Author.Tests.{le-leb, lt-leb}
 use Rattle.scope.specs.Sheet.{All}
-use Rattle.scope.specs.Reading.{Row, firstFault, Read, accepted, refused, onward}
-use Rattle.scope.specs.Causes.{Met}
-use Rattle.scope.specs.Typed.{Typed, Legal, mostText, lineRows, sheetOf}
+use Rattle.scope.specs.Causes.{Test, Read, accepted, refused, Met}
+use Rattle.scope.specs.Reading.{firstFault, unlessFault}
+use Rattle.scope.specs.Typed.{Typed, Legal, mostText, lineTests, sheetOf}
 use Rattle.scope.specs.Texts.{Starts, Shared, FirstLine, here, later, TextRead, tooLong, notLegal, atFault}
 use Rattle.scope.specs.Texts as texts
 use Rattle.scope.specs.Parsing.{Outcome, legal, stuck, walk, start, firstLine, textOf, readText}
@@ -22,25 +22,25 @@ use Rattle.scope.specs.laws.Walked.{legal-walks, stuck-front, starts-wal
 
 -- ---- the first line at fault
 
-pub lines-met : (rss : List (List Row)) → All Met rss → (k : ℕ) (more : Read) → firstLine k rss more ≡ more
+pub lines-met : (rss : List (List Test)) → All Met rss → (k : ℕ) (more : Read) → firstLine k rss more ≡ more
 unfolding firstLine
 lines-met [] m k more = refl
 lines-met (rs ∷ rss) (m, ms) k more = rw (met-none rs m) (lines-met rss ms (suc k) more)
 
 -- j lines stand before
-pub line-refused : {c k : ℕ} {rss : List (List Row)} → FirstLine c k rss → (j : ℕ) (more : Read) → firstLine (suc j) rss more ≡ refused c (j + k) 0
+pub line-refused : {c k : ℕ} {rss : List (List Test)} → FirstLine c k rss → (j : ℕ) (more : Read) → firstLine (suc j) rss more ≡ refused c (j + k) 0
 unfolding firstLine
 line-refused {c} (here f) j more = rw (first-some f) (ap (λ n. refused c n 0) (omega arith))
 line-refused {c} (later {k} {rs} m f) j more = rw (met-none rs m) (line-refused f (suc j) more ∙ ap (λ n. refused c n 0) (omega arith))
 
 -- by whether there is such a line
 module _ (P : Read → Type 0) where
-  pub by-lines : (j : ℕ) (rss : List (List Row)) (more : Read) → (All Met rss → P more) → ((c k : ℕ) → FirstLine c k rss → P (refused c (j + k) 0)) → P (firstLine (suc j) rss more)
+  pub by-lines : (j : ℕ) (rss : List (List Test)) (more : Read) → (All Met rss → P more) → ((c k : ℕ) → FirstLine c k rss → P (refused c (j + k) 0)) → P (firstLine (suc j) rss more)
   unfolding firstLine
   by-lines j [] more f g = f tt
   by-lines j (rs ∷ rss) more f g = go (firstFault rs) refl (by-lines (suc j) rss more)
     where
-      go : (o : Option ℕ) → firstFault rs ≡ o → ((All Met rss → P more) → ((c k : ℕ) → FirstLine c k rss → P (refused c (suc j + k) 0)) → P (firstLine (suc (suc j)) rss more)) → P (onward o (suc j) 0 (firstLine (suc (suc j)) rss more))
+      go : (o : Option ℕ) → firstFault rs ≡ o → ((All Met rss → P more) → ((c k : ℕ) → FirstLine c k rss → P (refused c (suc j + k) 0)) → P (firstLine (suc (suc j)) rss more)) → P (unlessFault o (suc j) 0 (firstLine (suc (suc j)) rss more))
       go none e rest = rest (λ ms. f (met rs e, ms)) (λ c k h. subst (λ n. P (refused c n 0)) (omega arith) (g c (suc k) (later (met rs e) h)))
       go (some c) e rest = subst (λ n. P (refused c n 0)) (omega arith) (g c 1 (here (first c rs e)))
 
@@ -84,7 +84,7 @@ text-told : (s : List ℕ) → TextRead s (readText s)
 text-told s = size (decLe (length s) mostText)
   where
     walked : length s ≤ mostText → (o : Outcome) → walk start s ≡ o → TextRead s (textOf (length s) o)
-    walked l (legal v) e = by-lines (TextRead s) 0 (lineRows v) (accepted (sheetOf v)) (texts.accepted l (walk-legal s v e)) (λ c k f. rw zero-add (atFault l (walk-legal s v e) f))
+    walked l (legal v) e = by-lines (TextRead s) 0 (lineTests v) (accepted (sheetOf v)) (texts.accepted l (walk-legal s v e)) (λ c k f. rw zero-add (atFault l (walk-legal s v e) f))
     walked l (stuck left) e = notLegal l (stuck-not-legal s left e) (stuck-shared s left e)
 
     size : Dec (length s ≤ mostText) → TextRead s (readText s)
@@ -99,7 +99,7 @@ told-text s (notLegal {n} l f h) = go (walk start s) refl
     go (legal v) e = absurd (f v (walk-legal s v e))
     go (stuck left) e = short-enough s (stuck left) l e ∙ ap (λ n. refused 12 (suc n) 0) (shared-once (stuck-shared s left e) h)
 told-text s (atFault {v} {c} {k} l h f) = short-enough s (legal v) l (legal-walks v s h) ∙ line-refused f 0 (accepted (sheetOf v)) ∙ ap (λ n. refused c n 0) (zero-add k)
-told-text s (texts.accepted {v} l h m) = short-enough s (legal v) l (legal-walks v s h) ∙ lines-met (lineRows v) m 1 (accepted (sheetOf v))
+told-text s (texts.accepted {v} l h m) = short-enough s (legal v) l (legal-walks v s h) ∙ lines-met (lineTests v) m 1 (accepted (sheetOf v))
 
 pub text-iff : (s : List ℕ) (r : Read) → (readText s ≡ r) ↔ TextRead s r
 text-iff s r = (λ e. subst (TextRead s) e (text-told s), told-text s)

@@ -2,33 +2,23 @@
 use Prim.Native.Nat.{ℕ, suc, _+_, _≤_}
 use native.Mathlib.Nat.{add-zero}
 use native.Mathlib.Omega.{arith}
-use mathlib.Core.Bool.{true}
+use mathlib.Core.Bool.{Bool, true}
 use mathlib.Core.List.{List, [], _∷_, _++_}
 use mathlib.Core.Path.{_≡_, refl, ap, subst}
 use lib.Dec.{leb, ltb}
 use lib.ListN.{length, length-append}
 use borrow.Author.Tests.{leb-true, ltb-true}
 use Rattle.scope.specs.Sheet.{Clause, Gate, Sheet, All, Among, Names, Ordered, Wish, Valid, mostSwitches, mostFaults, mostGates, mostRules, mostWishes}
-use Rattle.scope.specs.Reading.{Row, Read}
-use Rattle.scope.specs.Reading as reading
-use Rattle.scope.specs.Causes.{Met}
+use Rattle.scope.specs.Causes.{Test, Met, Read}
+use Rattle.scope.specs.Causes as reading
 use Rattle.scope.specs.Source.{Refusal, Source}
 use Rattle.scope.specs.Meaning.{all}
-use Rattle.scope.specs.Typed.{Formula, Typed, Level, Written, RuleLines, Writable, Legal, mostNumber, wishLines, operators, point, gatesOf, allGates, allPoints, known, ruleRows, wishRows, lineRows, sheetOf}
-use Rattle.scope.specs.Texts.{FirstLine, TextRead, tooLong, notLegal, atFault, accepted}
+use Rattle.scope.specs.Typed.{Formula, Typed, Level, Written, RuleLines, Writable, Legal, mostText, mostNumber, wishLines, operators, point, gatesOf, allGates, allPoints, known, ruleTests, wishTests, lineTests, sheetOf}
+use Rattle.scope.specs.Texts.{FirstLine, TextRead, tooLong, notLegal, atFault, accepted, TextRefusal, overlong, illegal, switchesOutOfRange, faultsOutOfRange, tooMany, notOnSheet}
 use Rattle.scope.specs.laws.Tests.{both}
+use Rattle.scope.specs.laws.Alls.{all-append, all-parts}
+use Rattle.scope.specs.laws.Gates.{ordered-append}
 use Rattle.scope.specs.laws.Refusals.{first-in}
-use Rattle.scope.specs.laws.Inverse.{all-append}
-
--- ---- parts of lists
-
-pub all-parts : {A : Type 0} (P : A → Type 0) (r s : List A) → All P (r ++ s) → All P r × All P s
-all-parts P [] s h = (tt, h)
-all-parts P (x ∷ r) s (p, h) = let (g, k) = all-parts P r s h in ((p, g), k)
-
-ordered-append : (m k : ℕ) (gs hs : List Gate) → m + length gs ≡ k → Ordered m gs → Ordered k hs → Ordered m (gs ++ hs)
-ordered-append m k [] hs e g h = subst (λ j. Ordered j hs) (omega arith) h
-ordered-append m k (x ∷ gs) hs e (p, g) h = (p, ordered-append (suc m) k gs hs (omega arith) g h)
 
 -- ---- rules, with a switches and f faults
 module _ (a f : ℕ) where
@@ -114,8 +104,8 @@ module _ (a f : ℕ) where
   -- ---- what their tests say, i rules before them
 
   -- that of 5
-  rules-few : (n i : ℕ) (xs : List Formula) → n ≤ mostGates → i ≤ mostRules → All Met (ruleRows a f n i xs) → (n + length (allGates a f n xs) ≤ mostGates) × (i + length xs ≤ mostRules)
-  unfolding ruleRows allGates
+  rules-few : (n i : ℕ) (xs : List Formula) → n ≤ mostGates → i ≤ mostRules → All Met (ruleTests a f n i xs) → (n + length (allGates a f n xs) ≤ mostGates) × (i + length xs ≤ mostRules)
+  unfolding ruleTests allGates
   rules-few n i [] g r m = omega arith
   rules-few n i (x ∷ xs) g r ((c, k), m) =
       let (d, e) = both (leb (n + operators x) mostGates) (ltb i mostRules) c in
@@ -123,42 +113,42 @@ module _ (a f : ℕ) where
       omega (arith, rules-few (n + operators x) (suc i) xs (leb-true (n + operators x) mostGates d) h m, length-gates n x, length-append (gatesOf a f n x) (allGates a f (n + operators x) xs))
 
   -- that of 6
-  formulas-on-sheet : (n i : ℕ) {xs : List Formula} {s : List ℕ} → RuleLines xs s → All Met (ruleRows a f n i xs) → All OnSheet xs
-  unfolding ruleRows
+  formulas-on-sheet : (n i : ℕ) {xs : List Formula} {s : List ℕ} → RuleLines xs s → All Met (ruleTests a f n i xs) → All OnSheet xs
+  unfolding ruleTests
   formulas-on-sheet n i RuleLines.none m = tt
   formulas-on-sheet n i (RuleLines.next {x} w r) ((c, (k, t)), m) = (written-on-sheet w k, formulas-on-sheet (n + operators x) (suc i) r m)
 
 -- ---- wishes, j before them
 
-literals-among : (a : ℕ) (w : Clause) → All (λ x. Among mostNumber (x .size)) w → all (λ x. leb (x .size) a) w ≡ true → All (λ x. Among a (x .size)) w
+literals-among : (a : ℕ) (w : Clause) → All (λ x. Among mostNumber (x .size)) w → all w (λ x. leb (x .size) a) ≡ true → All (λ x. Among a (x .size)) w
 literals-among a [] h e = tt
-literals-among a (x ∷ w) ((low, high), h) e = let (p, q) = both (leb (x .size) a) (all (λ x. leb (x .size) a) w) e in ((low, leb-true (x .size) a p), literals-among a w h q)
+literals-among a (x ∷ w) ((low, high), h) e = let (p, q) = both (leb (x .size) a) (all w (λ x. leb (x .size) a)) e in ((low, leb-true (x .size) a p), literals-among a w h q)
 
 module _ (a f : ℕ) where
   -- that of 5
-  wishes-few : (j : ℕ) (ws : List Clause) → j ≤ mostWishes → All Met (wishRows a f j ws) → j + length ws ≤ mostWishes
-  unfolding wishRows
+  wishes-few : (j : ℕ) (ws : List Clause) → j ≤ mostWishes → All Met (wishTests a f j ws) → j + length ws ≤ mostWishes
+  unfolding wishTests
   wishes-few j [] l m = omega arith
   wishes-few j (w ∷ ws) l ((c, k), m) = omega (arith, wishes-few (suc j) ws (ltb-true j mostWishes c) m)
 
   -- that of 6
-  wishes-on-sheet : (j : ℕ) (ws : List Clause) → All Writable ws → All Met (wishRows a f j ws) → All (Wish a) ws
-  unfolding wishRows
+  wishes-on-sheet : (j : ℕ) (ws : List Clause) → All Writable ws → All Met (wishTests a f j ws) → All (Wish a) ws
+  unfolding wishTests
   wishes-on-sheet j [] h m = tt
   wishes-on-sheet j (w ∷ ws) ((some, few, among), h) ((c, (k, t)), m) = ((few, literals-among a w among k), wishes-on-sheet (suc j) ws h m)
 
 -- ---- the sheet
 
-pub rules-on-sheet : (v : Typed) (s : List ℕ) → Legal v s → All Met (lineRows v) → All (OnSheet (v .switches) (v .faults)) (v .rules)
-unfolding lineRows
-rules-on-sheet v s l (p, (q, m)) = formulas-on-sheet (v .switches) (v .faults) 0 0 (l .written) (all-parts Met (ruleRows (v .switches) (v .faults) 0 0 (v .rules)) (wishRows (v .switches) (v .faults) 0 (v .wishes)) m .0)
+pub rules-on-sheet : (v : Typed) (s : List ℕ) → Legal v s → All Met (lineTests v) → All (OnSheet (v .switches) (v .faults)) (v .rules)
+unfolding lineTests
+rules-on-sheet v s l (p, (q, m)) = formulas-on-sheet (v .switches) (v .faults) 0 0 (l .written) (all-parts Met (ruleTests (v .switches) (v .faults) 0 0 (v .rules)) (wishTests (v .switches) (v .faults) 0 (v .wishes)) m .0)
 
-sheet-valid : (v : Typed) (s : List ℕ) → Legal v s → All Met (lineRows v) → Valid (sheetOf v)
-unfolding lineRows sheetOf
+sheet-valid : (v : Typed) (s : List ℕ) → Legal v s → All Met (lineTests v) → Valid (sheetOf v)
+unfolding lineTests sheetOf
 sheet-valid v s l m =
     let a : ℕ = v .switches in
     let f : ℕ = v .faults in
-    let (r, w) = all-parts Met (ruleRows a f 0 0 (v .rules)) (wishRows a f 0 (v .wishes)) (m .1 .1) in
+    let (r, w) = all-parts Met (ruleTests a f 0 0 (v .rules)) (wishTests a f 0 (v .wishes)) (m .1 .1) in
     let (gates, rules) = rules-few a f 0 0 (v .rules) (omega arith) (omega arith) r in
     let known : All (OnSheet a f) (v .rules) = rules-on-sheet v s l m in
     record {
@@ -175,59 +165,81 @@ sheet-valid v s l m =
 -- ---- a refusal's place: a line is at least its line feed, so a text has no more lines than bytes
 
 module _ (a f : ℕ) where
-  rules-long : (n i : ℕ) {xs : List Formula} {s : List ℕ} → RuleLines xs s → length (ruleRows a f n i xs) ≤ length s
-  unfolding ruleRows
+  rules-long : (n i : ℕ) {xs : List Formula} {s : List ℕ} → RuleLines xs s → length (ruleTests a f n i xs) ≤ length s
+  unfolding ruleTests
   rules-long n i RuleLines.none = omega arith
   rules-long n i (RuleLines.next {x} w r) = simp length-append (omega (arith, rules-long (n + operators x) (suc i) r))
 
-  wishes-long : (j : ℕ) (ws : List Clause) → length (wishRows a f j ws) ≤ length (wishLines ws)
-  unfolding wishRows wishLines
+  wishes-long : (j : ℕ) (ws : List Clause) → length (wishTests a f j ws) ≤ length (wishLines ws)
+  unfolding wishTests wishLines
   wishes-long j [] = omega arith
   wishes-long j (w ∷ ws) = simp length-append (omega (arith, wishes-long (suc j) ws))
 
-few-lines : (v : Typed) (s : List ℕ) → Legal v s → length (lineRows v) ≤ length s
-unfolding lineRows
-few-lines v s l = rw (l .text) (simp length-append (omega (arith, rules-long (v .switches) (v .faults) 0 0 (l .written), wishes-long (v .switches) (v .faults) 0 (v .wishes))))
+lines-long : (v : Typed) (s : List ℕ) → Legal v s → length (lineTests v) ≤ length s
+unfolding lineTests
+lines-long v s l = rw (l .text) (simp length-append (omega (arith, rules-long (v .switches) (v .faults) 0 0 (l .written), wishes-long (v .switches) (v .faults) 0 (v .wishes))))
 
-fault-within : {c k : ℕ} {rss : List (List Row)} → FirstLine c k rss → k ≤ length rss
+fault-within : {c k : ℕ} {rss : List (List Test)} → FirstLine c k rss → k ≤ length rss
 fault-within (FirstLine.here f) = omega arith
 fault-within (FirstLine.later m f) = omega (arith, fault-within f)
 
--- ---- its number: 4, 5 or 6 if the text is legal, so none of the jobs' own
+-- ---- its number: 4 on the first two lines, then 5 or 6
 
-abbrev Numbered : List Row → Type 0
-Numbered rs = All (λ r. Among 6 (r .0)) rs
+abbrev Later : List Test → Type 0
+Later ts = All (λ x. (k : ℕ) → TextRefusal (x .0) (suc (suc (suc k))) 0) ts
 
 module _ (a f : ℕ) where
-  rule-numbers : (n i : ℕ) (xs : List Formula) → All Numbered (ruleRows a f n i xs)
-  unfolding ruleRows
+  rule-numbers : (n i : ℕ) (xs : List Formula) → All Later (ruleTests a f n i xs)
+  unfolding ruleTests
   rule-numbers n i [] = tt
-  rule-numbers n i (x ∷ xs) = ((omega arith, (omega arith, tt)), rule-numbers (n + operators x) (suc i) xs)
+  rule-numbers n i (x ∷ xs) = ((λ k. tooMany, (λ k. notOnSheet, tt)), rule-numbers (n + operators x) (suc i) xs)
 
-  wish-numbers : (j : ℕ) (ws : List Clause) → All Numbered (wishRows a f j ws)
-  unfolding wishRows
+  wish-numbers : (j : ℕ) (ws : List Clause) → All Later (wishTests a f j ws)
+  unfolding wishTests
   wish-numbers j [] = tt
-  wish-numbers j (w ∷ ws) = ((omega arith, (omega arith, tt)), wish-numbers (suc j) ws)
+  wish-numbers j (w ∷ ws) = ((λ k. tooMany, (λ k. notOnSheet, tt)), wish-numbers (suc j) ws)
 
-line-numbers : (v : Typed) → All Numbered (lineRows v)
-unfolding lineRows
-line-numbers v =
+fault-later : {c j : ℕ} {tss : List (List Test)} → FirstLine c j tss → All Later tss → (k : ℕ) → TextRefusal c (suc (suc k) + j) 0
+fault-later {c} (FirstLine.here {rs} f) (n, ns) k = subst (λ m. TextRefusal c m 0) (omega arith) (first-in (λ c. (k : ℕ) → TextRefusal c (suc (suc (suc k))) 0) rs n f k)
+fault-later {c} (FirstLine.later m f) (n, ns) k = subst (λ m. TextRefusal c m 0) (omega arith) (fault-later f ns (suc k))
+
+-- past the line of faults, and that of switches
+past-faults : {c j : ℕ} {b : Bool} {tss : List (List Test)} → All Later tss → FirstLine c j (((4, b) ∷ []) ∷ tss) → TextRefusal c (suc j) 0
+past-faults {b} n (FirstLine.here f) = rw (first-in (λ c. c ≡ 4) ((4, b) ∷ []) (refl, tt) f) faultsOutOfRange
+past-faults {c} n (FirstLine.later {k} m f) = subst (λ m. TextRefusal c m 0) (omega arith) (fault-later f n 0)
+
+past-switches : {c j : ℕ} {b d : Bool} {tss : List (List Test)} → All Later tss → FirstLine c j (((4, b) ∷ []) ∷ ((4, d) ∷ []) ∷ tss) → TextRefusal c j 0
+past-switches {b} n (FirstLine.here f) = rw (first-in (λ c. c ≡ 4) ((4, b) ∷ []) (refl, tt) f) switchesOutOfRange
+past-switches n (FirstLine.later m f) = past-faults n f
+
+fault-number : {c j : ℕ} (v : Typed) → FirstLine c j (lineTests v) → TextRefusal c j 0
+unfolding lineTests
+fault-number v f =
     let a : ℕ = v .switches in
-    let f : ℕ = v .faults in
-    ((omega arith, tt), ((omega arith, tt), all-append Numbered (ruleRows a f 0 0 (v .rules)) (wishRows a f 0 (v .wishes)) (rule-numbers a f 0 0 (v .rules)) (wish-numbers a f 0 (v .wishes))))
-
-fault-number : {c k : ℕ} {rss : List (List Row)} → FirstLine c k rss → All Numbered rss → Among 6 c
-fault-number (FirstLine.here {rs} f) (n, ns) = first-in (Among 6) rs n f
-fault-number (FirstLine.later m f) (n, ns) = fault-number f ns
+    let b : ℕ = v .faults in
+    past-switches (all-append Later (ruleTests a b 0 0 (v .rules)) (wishTests a b 0 (v .wishes)) (rule-numbers a b 0 0 (v .rules)) (wish-numbers a b 0 (v .wishes))) f
 
 -- ---- the source
 
-text-refusal : {s : List ℕ} {c place column : ℕ} → TextRead s (reading.refused c place column) → Refusal c place column
-text-refusal (tooLong h) = record { some = omega arith; own = λ e. omega arith; number = omega arith; place = omega arith; column = omega arith }
-text-refusal (notLegal h l n) = record { some = omega arith; own = λ e. omega arith; number = omega arith; place = omega (arith, n .within); column = omega arith }
-text-refusal {s} (atFault {v} h l e) =
-    let (low, high) = fault-number e (line-numbers v) in
-    record { some = low; own = λ i. absurd (omega arith); number = omega arith; place = omega (arith, fault-within e, few-lines v s l); column = omega arith }
+pub refusal-number : {s : List ℕ} {c place column : ℕ} → TextRead s (reading.refused c place column) → TextRefusal c place column
+refusal-number (tooLong h) = overlong
+refusal-number (notLegal h l n) = illegal
+refusal-number (atFault {v} h l e) = fault-number v e
+
+-- the place of a text that is not legal is at most one more than its length, and that of a line at most its length
+place-small : {s : List ℕ} {c place column : ℕ} → TextRead s (reading.refused c place column) → place ≤ suc mostText
+place-small (tooLong h) = omega arith
+place-small (notLegal h l n) = omega (arith, n .within)
+place-small {s} (atFault {v} h l e) = omega (arith, fault-within e, lines-long v s l)
+
+-- no number of the jobs' own
+text-refusal : {c place column : ℕ} → TextRefusal c place column → place ≤ suc mostText → Refusal c place column
+text-refusal overlong h = record { some = omega arith; own = λ e. omega arith; number = omega arith; place = omega arith; column = omega arith }
+text-refusal illegal h = record { some = omega arith; own = λ e. omega arith; number = omega arith; place = omega arith; column = omega arith }
+text-refusal switchesOutOfRange h = record { some = omega arith; own = λ e. absurd (omega arith); number = omega arith; place = omega arith; column = omega arith }
+text-refusal faultsOutOfRange h = record { some = omega arith; own = λ e. absurd (omega arith); number = omega arith; place = omega arith; column = omega arith }
+text-refusal tooMany h = record { some = omega arith; own = λ e. absurd (omega arith); number = omega arith; place = omega arith; column = omega arith }
+text-refusal notOnSheet h = record { some = omega arith; own = λ e. absurd (omega arith); number = omega arith; place = omega arith; column = omega arith }
 
 text-valid : {s : List ℕ} {t : Sheet} → TextRead s (reading.accepted t) → Valid t
 text-valid {s} (accepted {v} h l m) = sheet-valid v s l m
@@ -235,5 +247,5 @@ text-valid {s} (accepted {v} h l m) = sheet-valid v s l m
 pub reads-source : (s : List ℕ) (r : Read) → TextRead s r → Source r
 reads-source s r h = record {
   valid = λ t e. text-valid (rw e at h);
-  refusal = λ c place column e. text-refusal (rw e at h);
+  refusal = λ c place column e. text-refusal (refusal-number (rw e at h)) (place-small (rw e at h));
 }

@@ -48,6 +48,7 @@ module _ (a f : ℕ) (u : ℕ → Bool) where
 
   -- s is that of switches, and g of faults
   module _ (s g : ℕ → Bool) (switches : (k : ℕ) → Among a k → u k ≡ s k) (faults : (k : ℕ) → Among f k → u (a + k) ≡ g k) where
+    -- by the formula: its gate stands last, behind those of its parts, and names their points
     formula-true : (n : ℕ) (x : Formula) → OnSheet a f x → Holds n (gatesOf a f n x) → u (point a f n x) ≡ formulaTrue s g x
     unfolding point gatesOf operators formulaTrue
     formula-true n (Formula.switch k) o h = switches k o
@@ -73,9 +74,9 @@ module _ (a f : ℕ) (u : ℕ → Bool) where
 
 -- ---- the sheet
 
-all-map : {A : Type 0} (p : A → Bool) (s : List A) → all p s ≡ all (λ b. b) (map p s)
-all-map p [] = refl
-all-map p (x ∷ s) = ap (λ b. p x && b) (all-map p s)
+all-values : {A : Type 0} (p : A → Bool) (s : List A) → all s p ≡ all (map p s) (λ b. b)
+all-values p [] = refl
+all-values p (x ∷ s) = ap (λ b. p x && b) (all-values p s)
 
 -- whose formulas name only switches and faults on it
 module _ (v : Typed) (o : All (OnSheet (v .switches) (v .faults)) (v .rules)) (plan pattern : ℕ) where
@@ -88,10 +89,10 @@ module _ (v : Typed) (o : All (OnSheet (v .switches) (v .faults)) (v .rules)) (p
       let ordered : Ordered (a + f) (t .gates) = rw add-zero at (all-ordered a f 0 (v .rules) o) in
       formulas-true a f (truth t plan pattern) (switchOn t plan) (faultOn t pattern) (truth-switch t plan pattern) (truth-fault t plan pattern) 0 (v .rules) o (λ i l. rw zero-add (truth-gate t plan pattern ordered none i l))
 
-  pub passes-written : passes (sheetOf v) plan pattern ≡ all (formulaTrue (switchOn (sheetOf v) plan) (faultOn (sheetOf v) pattern)) (v .rules)
+  pub passes-written : passes (sheetOf v) plan pattern ≡ all (v .rules) (formulaTrue (switchOn (sheetOf v) plan) (faultOn (sheetOf v) pattern))
   unfolding passes
-  passes-written = all-map (truth (sheetOf v) plan pattern) (sheetOf v .rules) ∙ ap (all (λ b. b)) rules-true ∙ sym (all-map (formulaTrue (switchOn (sheetOf v) plan) (faultOn (sheetOf v) pattern)) (v .rules))
+  passes-written = all-values (truth (sheetOf v) plan pattern) (sheetOf v .rules) ∙ ap (λ s. all s (λ b. b)) rules-true ∙ sym (all-values (formulaTrue (switchOn (sheetOf v) plan) (faultOn (sheetOf v) pattern)) (v .rules))
 
-pub wishes-written : (v : Typed) (plan : ℕ) → map (kept (sheetOf v) plan) (sheetOf v .wishes) ≡ map (λ w. any (literalTrue (switchOn (sheetOf v) plan)) w) (v .wishes)
+pub wishes-written : (v : Typed) (plan : ℕ) → map (kept (sheetOf v) plan) (sheetOf v .wishes) ≡ map (λ w. any w (literalTrue (switchOn (sheetOf v) plan))) (v .wishes)
 unfolding sheetOf kept keeps
 wishes-written v plan = refl

@@ -15,7 +15,8 @@ use Rattle.scope.specs.Typed.{Formula, Typed, typed, mostNumber, numeral
 use Rattle.scope.specs.Typed as grammar
 use Rattle.scope.specs.Texts.{Starts}
 use Rattle.scope.specs.Parsing.{Around, line, bracket, first, bar, head, amp, bang, nested, Slot, State, word, digits, second, ruleLine, wishLine, spaced, operand, after, sign, wish, ended, addRule, addWish, operandDone, numberDone, joinedOr, outside, isDigit, digitOf, zeroOk, nestedMore, move, step, legal, stuck, atEnd, goOn, walk, start}
-use Rattle.scope.specs.laws.Fields.{by-digits, length-snoc}
+use Rattle.scope.specs.laws.Lists.{length-snoc}
+use Rattle.scope.specs.laws.Fields.{by-digits}
 
 -- ---- a byte
 
@@ -140,6 +141,7 @@ bar-walks : {o : Around ors} {x : Formula} {s g : List ℕ} → Gap g → (t : L
 unfolding step move
 bar-walks i t j = j .walked ∙ sign-walks i (j .inner) (j .last) (code "|") t refl refl ∙ step-walk (sign (j .inner) (j .last)) (code "|") t (rw (j .around, j .whole))
 
+-- by how the formula is written, whatever it is a part of and whatever follows
 walks : {l : Level} {d : ℕ} {x : Formula} {s : List ℕ} → Written l d x s → Walks l d x s
 unfolding step move nestedMore nested operandDone numberDone
 walks (grammar.switch {k = n} (p, q)) = λ k t h e. step-walk (operand k) (code "s") (numeral n ++ t) refl ∙ numeral-walks (Slot.switch k) n t q (λ z. absurd (omega arith)) e

@@ -8,7 +8,7 @@ use mathlib.Core.Logic.{_↔_, ∥∥₁-elim}
 use mathlib.Core.Path.{_≡_, refl, sym, ap, _∙_}
 use lib.ListN.{length}
 use Rattle.scope.specs.Sheet.{Number, number, Clause, Gate, Sheet, sheet, mostWishes, Valid}
-use Rattle.scope.specs.Meaning.{literalTrue, keeps, broken, switchOn, kept, cost}
+use Rattle.scope.specs.Meaning.{literalTrue, keeps, broken, switchOn, kept, cost, costs}
 use Rattle.scope.specs.laws.Tests.{clash}
 
 -- ---- kept and broken
@@ -65,6 +65,7 @@ module _ (v : ℕ → Bool) where
       go true h = h
       go false h = omega arith
 
+  -- each wish counts by itself, so neighbours may change places
   broken-order : {ws us : List Clause} → List·Permᴰ ws us → broken v ws ≡ broken v us
   broken-order List·Permᴰ·nil = refl
   broken-order (List·Permᴰ·cons {a = w} {b = u} {l₁ = ws} {l₂ = us} e p) =
@@ -87,18 +88,14 @@ pub cost-small : (t : Sheet) → Valid t → (plan : ℕ) → cost t plan ≤ mo
 cost-small t v plan = omega (arith, cost-most t plan, v .few-wishes)
 
 module _ (a f : ℕ) (gs : List Gate) (rs : List ℕ) (plan : ℕ) where
-  -- what these wishes cost
-  abbrev pub costs : List Clause → ℕ
-  costs ws = cost (sheet a f gs rs ws) plan
-
-  pub cost-one : (w : Clause) → costs (w ∷ []) ≡ cond (kept (sheet a f gs rs []) plan w) 0 1
+  pub cost-one : (w : Clause) → costs a f gs rs plan (w ∷ []) ≡ cond (kept (sheet a f gs rs []) plan w) 0 1
   unfolding cost broken kept switchOn
   cost-one w = refl
 
-  pub cost-together : (us ws : List Clause) → costs (us ++ ws) ≡ costs us + costs ws
+  pub cost-together : (us ws : List Clause) → costs a f gs rs plan (us ++ ws) ≡ costs a f gs rs plan us + costs a f gs rs plan ws
   unfolding cost switchOn
   cost-together us ws = broken-together (switchOn (sheet a f gs rs []) plan) us ws
 
-  pub cost-order : (ws us : List Clause) → Perm ws us → costs ws ≡ costs us
+  pub cost-order : (ws us : List Clause) → Perm ws us → costs a f gs rs plan ws ≡ costs a f gs rs plan us
   unfolding cost switchOn
-  cost-order ws us p = ∥∥₁-elim p (ℕ-set (costs ws) (costs us)) (broken-order (switchOn (sheet a f gs rs []) plan))
+  cost-order ws us p = ∥∥₁-elim p (ℕ-set (costs a f gs rs plan ws) (costs a f gs rs plan us)) (broken-order (switchOn (sheet a f gs rs []) plan))

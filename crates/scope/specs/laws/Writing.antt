@@ -10,16 +10,16 @@ use lib.Dec.{eqb}
 use lib.ListN.{length, getD, length-append}
 use borrow.Author.Tests.{eqb-true}
 use Rattle.scope.specs.Sheet.{Number, plus, Sheet, H, N, A, O, Line, line, text, filled, headLine, endLine, body, sheetLines, sheetBytes, All, Valid}
-use Rattle.scope.specs.Reading.{started, make, accepted, lineSize}
-use Rattle.scope.specs.Causes.{Met}
+use Rattle.scope.specs.Causes.{started, make, accepted, lineSize, Met}
 use Rattle.scope.specs.Tables.{Tables, literalFrom}
-use Rattle.scope.specs.Writing.{nowhere, word, entries, kindLine, gateAt, ruleAt, wishAt, tableLines, rowsFrom, sheetFrom, tableRows, readTables}
+use Rattle.scope.specs.Writing.{entries}
+use Rattle.scope.specs.Checking.{nowhere, word, kindLine, gateAt, ruleAt, wishAt, tableLines, testsFrom, sheetFrom, readTables, linesTests}
 use Rattle.scope.specs.laws.Tests.{clash}
-use Rattle.scope.specs.laws.Fields.{length-snoc}
+use Rattle.scope.specs.laws.Lists.{length-snoc}
+use Rattle.scope.specs.laws.Alls.{all-append, all-snoc}
 use Rattle.scope.specs.laws.Refusals.{not-both}
-use Rattle.scope.specs.laws.Steps.{all-snoc, Step, more, done, step, Head, head-step}
-use Rattle.scope.specs.laws.Inverse.{Good, length-text, all-append, length-filled, good-body, few-body, good-lines}
-use Rattle.scope.specs.laws.Inverse as inverse
+use Rattle.scope.specs.laws.Steps.{Step, more, done, step, Head, head-step}
+use Rattle.scope.specs.laws.Inverse.{Good, length-text, length-filled, good-body, few-body, good-lines}
 use Rattle.scope.specs.laws.TextReads.{by-lines}
 
 -- ---- how many lines, and of how many fields
@@ -70,8 +70,8 @@ module _ (n : ℕ) (wide : 3 ≤ n) where
 
   -- ---- lines that pass are those of the sheet that they say
 
-  said : (t : Sheet) (v : Valid t) (k : ℕ) → k ≢ 0 → (ls : List Line) → All Counted ls → All Met (rowsFrom t k ls) → (body n (sheetFrom t ls) ≡ body n t ++ ls) × Valid (sheetFrom t ls)
-  unfolding rowsFrom sheetFrom
+  said : (t : Sheet) (v : Valid t) (k : ℕ) → k ≢ 0 → (ls : List Line) → All Counted ls → All Met (testsFrom t k ls) → (body n (sheetFrom t ls) ≡ body n t ++ ls) × Valid (sheetFrom t ls)
+  unfolding testsFrom sheetFrom
   said t v k h [] c m = (sym (append-nil (body n t)), v)
   said t v k h (l ∷ ls) (c, cs) (m, ms) = go (step n wide t v k false (l .fields) c (l .letter) h m) (λ w. said (make t (l .letter) (l .fields)) w (suc k) (λ e. omega arith) ls cs ms)
     where
@@ -82,8 +82,8 @@ module _ (n : ℕ) (wide : 3 ≤ n) where
       go (more a w e) rest = let (b, x) = rest w in (b ∙ ap (λ r. r ++ ls) e ∙ append-assoc (body n t) (l ∷ []) ls, x)
       go (done a e f) rest = clash a refl
 
-  pub tables-said : (u : Tables) → All Met (tableRows n u) → (body n (sheetFrom (started 0 0) (tableLines n u)) ≡ tableLines n u) × Valid (sheetFrom (started 0 0) (tableLines n u))
-  unfolding tableLines rowsFrom sheetFrom
+  pub tables-said : (u : Tables) → All Met (linesTests n u) → (body n (sheetFrom (started 0 0) (tableLines n u)) ≡ tableLines n u) × Valid (sheetFrom (started 0 0) (tableLines n u))
+  unfolding tableLines testsFrom sheetFrom
   tables-said u (m, ms) =
       let xs : List Number = filled n (plus (u .switches) ∷ plus (u .faults) ∷ []) in
       let (c, cs) = counted u in
@@ -91,9 +91,9 @@ module _ (n : ℕ) (wide : 3 ≤ n) where
       let (b, v) = said (make (started 0 0) H xs) (h .valid) 1 (λ e. omega arith) (entries (gateAt n u) (u .gates) ++ entries (ruleAt n u) (u .rules) ++ entries (wishAt n u) (u .wishes)) cs ms in
       (b ∙ ap (λ r. r ++ (entries (gateAt n u) (u .gates) ++ entries (ruleAt n u) (u .rules) ++ entries (wishAt n u) (u .wishes))) (h .lines), v)
 
-  accepted-said : (u : Tables) (t : Sheet) → readTables n u ≡ accepted t → All Met (tableRows n u) × (sheetFrom (started 0 0) (tableLines n u) ≡ t)
+  accepted-said : (u : Tables) (t : Sheet) → readTables n u ≡ accepted t → All Met (linesTests n u) × (sheetFrom (started 0 0) (tableLines n u) ≡ t)
   unfolding readTables
-  accepted-said u t = by-lines (λ r. r ≡ accepted t → All Met (tableRows n u) × (sheetFrom (started 0 0) (tableLines n u) ≡ t)) 0 (tableRows n u) (accepted (sheetFrom (started 0 0) (tableLines n u))) (λ m e. (m, cc)) (λ c k f e. absurd (not-both (sym e)))
+  accepted-said u t = by-lines (λ r. r ≡ accepted t → All Met (linesTests n u) × (sheetFrom (started 0 0) (tableLines n u) ≡ t)) 0 (linesTests n u) (accepted (sheetFrom (started 0 0) (tableLines n u))) (λ m e. (m, cc)) (λ c k f e. absurd (not-both (sym e)))
 
   -- ---- so of tables that are read as t
 
@@ -114,6 +114,3 @@ module _ (n : ℕ) (wide : 3 ≤ n) where
     sheet-size =
         let (b, v) = accepted-lines in
         length-text n (sheetLines n t) (good-lines n wide t v) ∙ ap (λ m. m * lineSize n) (length-append (body n t) (endLine n (length (body n t)) ∷ []) ∙ ap (λ r. length r + 1) b)
-
-  pub end-good : (k : ℕ) → k ≤ 99999 → Good n (endLine n k)
-  end-good = inverse.end-good n wide
