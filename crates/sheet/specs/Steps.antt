@@ -7,8 +7,7 @@ use mathlib.Core.Logic.{_≢_}
 use mathlib.Core.Path.{_≡_}
 use lib.ListN.{length, take}
 use Rattle.scope.specs.Sheet.{Number, Clause, Gate, Sheet, Letter, H, N, A, O, R, W, Z, Line, mostSwitches, mostFaults, mostGates, mostRules, mostWishes, mostLiterals}
-use Rattle.scope.specs.Reading.{literals, Row, lineSize, lineCount, lengthOk}
-use Rattle.scope.specs.Causes.{Met, First}
+use Rattle.scope.specs.Causes.{literals, Test, lineSize, lineCount, lengthOk, Met, First}
 use Rattle.scope.specs.Tables.{kindOf, leftOf, rightOf, literalAt}
 use Rattle.sheet.specs.Tables.{padded, pointOf}
 use Rattle.sheet.specs.declared.tables.Counts.{Counts}
@@ -21,23 +20,23 @@ pub record Counted (t : Sheet) (c : Counts) : Type 0 where
   pub rules : c .rules ≡ length (t .rules)
   pub wishes : c .wishes ≡ length (t .wishes)
 
--- columns that hold these gates, or these wishes, and then zeros
-pub record GateColumns (gs : List Gate) (kind left right : List ℕ) : Type 0 where
+-- arrays that hold these gates, or these wishes, and then zeros
+pub record GateArrays (gs : List Gate) (kind left right : List ℕ) : Type 0 where
   pub kinds : kind ≡ padded mostGates kindOf gs
   pub lefts : left ≡ padded mostGates leftOf gs
   pub rights : right ≡ padded mostGates rightOf gs
 
-pub record WishColumns (ws : List Clause) (first second third : List ℕ) : Type 0 where
+pub record WishArrays (ws : List Clause) (first second third : List ℕ) : Type 0 where
   pub firsts : first ≡ padded mostWishes (literalAt 0) ws
   pub seconds : second ≡ padded mostWishes (literalAt 1) ws
   pub thirds : third ≡ padded mostWishes (literalAt 2) ws
 
--- the counts and columns of a sheet
+-- the counts and arrays of a sheet
 pub record Held (t : Sheet) (c : Counts) (kind left right rule first second third : List ℕ) : Type 0 where
   pub counts : Counted t c
-  pub gates : GateColumns (t .gates) kind left right
+  pub gates : GateArrays (t .gates) kind left right
   pub rules : rule ≡ padded mostRules pointOf (t .rules)
-  pub wishes : WishColumns (t .wishes) first second third
+  pub wishes : WishArrays (t .wishes) first second third
 
 -- few enough that the points are counted without a wrap
 pub record Few (c : Counts) : Type 0 where
@@ -45,15 +44,15 @@ pub record Few (c : Counts) : Type 0 where
   pub faults : c .faults ≤ mostFaults
   pub gates : c .gates ≤ mostGates
 
-unfoldable pub rowOf : ℕ → Bool → ℕ → ℕ
-rowOf number met later = cond met later number
+unfoldable pub testOf : ℕ → Bool → ℕ → ℕ
+testOf number met later = cond met later number
 
 -- r is the number of the first test that is not met, or 0
-pub record Fault (rs : List Row) (r : ℕ) : Type 0 where
+pub record Fault (rs : List Test) (r : ℕ) : Type 0 where
   pub met : r ≡ 0 → Met rs
   pub first : r ≢ 0 → First r rs
 
--- what the columns must have room for to take a line; a head finds them empty
+-- what the arrays must have room for to take a line; a head finds them empty
 abbrev pub RoomFor : Counts → Letter → List Number → Type 0
 RoomFor c H xs = (c .gates ≡ 0) × (c .rules ≡ 0) × (c .wishes ≡ 0)
 RoomFor c N xs = c .gates < mostGates

@@ -4,11 +4,12 @@ use mathlib.Core.List.{List, _++_, map}
 use mathlib.Core.Path.{_≡_}
 use lib.ListN.{length, replicate}
 use Rattle.scope.specs.Sheet.{Sheet, mostGates, mostRules, mostWishes}
-use Rattle.scope.specs.Reading.{started, Read, accepted, refused}
+use Rattle.scope.specs.Causes.{started, Read, accepted, refused}
 use Rattle.scope.specs.Source.{Source}
 use Rattle.scope.specs.Tables.{kindOf, leftOf, rightOf, literalAt}
 use Rattle.scope.specs.Tables as scope
 use Rattle.sheet.specs.declared.tables.Tables.{Tables}
+use Rattle.sheet.specs.declared.tables.Counts.{Counts}
 
 -- n words: f of each entry, then zeros
 unfoldable pub padded : {A : Type 0} → ℕ → (A → ℕ) → List A → List ℕ
@@ -36,32 +37,42 @@ tables n k c t = record {
   third = padded mostWishes (literalAt 2) (t .wishes);
 }
 
-abbrev pub filled : Sheet → Tables
-filled t = tables 0 0 0 t
+abbrev pub acceptedTables : Sheet → Tables
+acceptedTables t = tables 0 0 0 t
 
-abbrev pub refusal : (number place column : ℕ) → Tables
-refusal n k c = tables n k c (started 0 0)
+abbrev pub refusedTables : (number place column : ℕ) → Tables
+refusedTables n k c = tables n k c (started 0 0)
 
 abbrev pub outcome : Read → Tables
-outcome (accepted t) = filled t
-outcome (refused n k c) = refusal n k c
+outcome (accepted t) = acceptedTables t
+outcome (refused n k c) = refusedTables n k c
 
--- as a caller lends them
-abbrev pub lent : Tables → scope.Tables
-lent u = record {
-  switches = u .switches;
-  faults = u .faults;
-  gates = u .gates;
-  rules = u .rules;
-  wishes = u .wishes;
-  kind = u .kind;
-  left = u .left;
-  right = u .right;
-  rule = u .rule;
-  first = u .first;
-  second = u .second;
-  third = u .third;
+-- ---- tables as a caller lends them: counts, and an array for each word
+
+abbrev pub counts : (switches faults gates rules wishes : ℕ) → Counts
+counts a f g r w = record { switches = a; faults = f; gates = g; rules = r; wishes = w }
+
+abbrev pub lentTables : Counts → (kind left right rule first second third : List ℕ) → scope.Tables
+lentTables c kind left right rule first second third = record {
+  switches = c .switches;
+  faults = c .faults;
+  gates = c .gates;
+  rules = c .rules;
+  wishes = c .wishes;
+  kind = kind;
+  left = left;
+  right = right;
+  rule = rule;
+  first = first;
+  second = second;
+  third = third;
 }
+
+-- those that a reader returned
+abbrev pub asTables : Tables → scope.Tables
+asTables u = lentTables (counts (u .switches) (u .faults) (u .gates) (u .rules) (u .wishes)) (u .kind) (u .left) (u .right) (u .rule) (u .first) (u .second) (u .third)
+
+-- ---- what the layers above ask of tables that they are handed
 
 -- the tables of some source
 pub record Sourced (u : Tables) : Type 0 where

@@ -1,6 +1,6 @@
 pub mod Bounds
 pub mod Outcomes
-pub mod Rows
+pub mod Tests
 pub mod Held
 pub mod Numbers
-pub mod Lent
+pub mod Accepted

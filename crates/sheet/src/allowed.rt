@@ -4,7 +4,7 @@ ghost use mathlib.Core.Bool.{_&&_};
 ghost use Prim.Native.Nat.{_≤_, _<_};
 ghost use lib.ListN.{drop};
 ghost use Rattle.scope.specs.Sheet.{mostLiterals};
-ghost use Rattle.scope.specs.Reading.{is, upTo, point, literal, zeros, literals, at};
+ghost use Rattle.scope.specs.Causes.{is, upTo, point, literal, zeros, literals, at};
 ghost use Rattle.sheet.specs.Columns.{numberFrom};
 ghost use Rattle.sheet.specs.Lines.{numbersFrom};
 use crate::field::Number;

@@ -1,4 +1,4 @@
-// The causes to turn a line down, tested in the order of the scope's rows: a function for each kind of line returns the number of
+// The causes to turn a line down, tested in the order of the scope's tests: a function for each kind of line returns the number of
 // the first test that is not met, or 0. t in a promise is what the k lines before say, of which the code has the counts.
 ghost use mathlib.Core.Path.{_≡_};
 ghost use mathlib.Core.Bool.{not, _&&_};
@@ -6,9 +6,10 @@ ghost use mathlib.Core.Option.{some};
 ghost use Prim.Native.Nat.{_≤_};
 ghost use lib.Dec.{eqb};
 ghost use Rattle.scope.specs.Sheet.{Sheet, points, H as Head, R as Rule, W as Wish, Z as End};
-ghost use Rattle.scope.specs.Reading.{gateRows, rows, tests, joined};
+ghost use Rattle.scope.specs.Causes.{gateTests, tests};
+ghost use Rattle.scope.specs.Reading.{testsOf, joined};
 ghost use Rattle.sheet.specs.Lines.{letterFrom, numbersFrom, lineFrom};
-ghost use Rattle.sheet.specs.Steps.{rowOf, Fault, Counted, Few};
+ghost use Rattle.sheet.specs.Steps.{testOf, Fault, Counted, Few};
 use crate::allowed;
 use crate::allowed::both;
 use crate::field::Number;
@@ -43,8 +44,8 @@ pub const FIELDS: u32 = 6;
 const COUNT: u32 = 7;
 
 // A test before others: `number` unless it is met, and then what they give.
-pub fn row(number: u32, met: bool, later: u32) -> u32
-    ensures { λ r. ⌜ r ≡ rowOf number met later ⌝ }
+pub fn test(number: u32, met: bool, later: u32) -> u32
+    ensures { λ r. ⌜ r ≡ testOf number met later ⌝ }
 {
     if met {
         return later;
@@ -69,54 +70,54 @@ fn all_points(c: Counts) -> u32
 
 fn head_fault(xs: [Number; MOST_FIELDS], k: usize, last: bool, n: usize) -> u32
     requires { ⌜ (3 ≤ n) × (n ≤ 4) ⌝ }
-    ensures { λ r. ⌜ ((t : Sheet) → Fault (rows t k last Head (numbersFrom n xs)) r) ⌝ }
+    ensures { λ r. ⌜ ((t : Sheet) → Fault (tests t k last Head (numbersFrom n xs)) r) ⌝ }
 {
     let order = both(k == 0, !last);
     let switches = allowed::is_up_to(nth(xs, 0, n), MOST_SWITCHES);
     let faults = allowed::is_up_to(nth(xs, 1, n), MOST_FAULTS);
     let range = both(switches, faults);
     let fields = allowed::unused(xs, 2, n);
-    row(ORDER, order, row(RANGE, range, row(FIELDS, fields, 0)))
+    test(ORDER, order, test(RANGE, range, test(FIELDS, fields, 0)))
 }
 
 fn gate_fault(c: Counts, fields: bool, k: usize, last: bool) -> u32
-    ensures { λ r. ⌜ ((t : Sheet) → Counted t c → Fault (gateRows t k last fields) r) ⌝ }
+    ensures { λ r. ⌜ ((t : Sheet) → Counted t c → Fault (gateTests t k last fields) r) ⌝ }
 {
     let order = both(between(k, last), both(c.rules == 0, c.wishes == 0));
     let limit = c.gates < MOST_GATES;
-    row(ORDER, order, row(LIMIT, limit, row(FIELDS, fields, 0)))
+    test(ORDER, order, test(LIMIT, limit, test(FIELDS, fields, 0)))
 }
 
 fn rule_fault(c: Counts, xs: [Number; MOST_FIELDS], k: usize, last: bool, n: usize) -> u32
     requires { ⌜ Few c × (3 ≤ n) × (n ≤ 4) ⌝ }
-    ensures { λ r. ⌜ ((t : Sheet) → Counted t c → Fault (rows t k last Rule (numbersFrom n xs)) r) ⌝ }
+    ensures { λ r. ⌜ ((t : Sheet) → Counted t c → Fault (tests t k last Rule (numbersFrom n xs)) r) ⌝ }
 {
     let order = both(between(k, last), c.wishes == 0);
     let limit = c.rules < MOST_RULES;
     let fields = allowed::one_point(xs, all_points(c), n);
-    row(ORDER, order, row(LIMIT, limit, row(FIELDS, fields, 0)))
+    test(ORDER, order, test(LIMIT, limit, test(FIELDS, fields, 0)))
 }
 
 fn wish_fault(c: Counts, xs: [Number; MOST_FIELDS], k: usize, last: bool, n: usize) -> u32
     requires { ⌜ (3 ≤ n) × (n ≤ 4) ⌝ }
-    ensures { λ r. ⌜ ((t : Sheet) → Counted t c → Fault (rows t k last Wish (numbersFrom n xs)) r) ⌝ }
+    ensures { λ r. ⌜ ((t : Sheet) → Counted t c → Fault (tests t k last Wish (numbersFrom n xs)) r) ⌝ }
 {
     let order = between(k, last);
     let limit = c.wishes < MOST_WISHES;
     let literals = allowed::are_literals(xs, c.switches);
     let rest = allowed::unused(xs, allowed::MOST_LITERALS, n);
     let fields = both(literals, rest);
-    row(ORDER, order, row(LIMIT, limit, row(FIELDS, fields, 0)))
+    test(ORDER, order, test(LIMIT, limit, test(FIELDS, fields, 0)))
 }
 
 fn end_fault(xs: [Number; MOST_FIELDS], k: usize, last: bool, n: usize) -> u32
     requires { ⌜ (3 ≤ n) × (n ≤ 4) ⌝ }
-    ensures { λ r. ⌜ ((t : Sheet) → Fault (rows t k last End (numbersFrom n xs)) r) ⌝ }
+    ensures { λ r. ⌜ ((t : Sheet) → Fault (tests t k last End (numbersFrom n xs)) r) ⌝ }
 {
     let order = both(k != 0, last);
     let fields = allowed::unused(xs, 1, n);
     let count = allowed::is_number(nth(xs, 0, n), k);
-    row(ORDER, order, row(FIELDS, fields, row(COUNT, count, 0)))
+    test(ORDER, order, test(FIELDS, fields, test(COUNT, count, 0)))
 }
 
 fn letter_fault(
@@ -128,7 +129,7 @@ fn letter_fault(
     n: usize,
 ) -> u32
     requires { ⌜ Few c × (3 ≤ n) × (n ≤ 4) ⌝ }
-    ensures { λ r. ⌜ ((t : Sheet) → Counted t c → Fault (tests t k last (joined (letterFrom letter) (some (numbersFrom n xs)))) r) ⌝ }
+    ensures { λ r. ⌜ ((t : Sheet) → Counted t c → Fault (testsOf t k last (joined (letterFrom letter) (some (numbersFrom n xs)))) r) ⌝ }
 {
     match letter {
         Letter::Head => head_fault(xs, k, last, n),
@@ -145,7 +146,7 @@ fn letter_fault(
 // The number of the first test that line k does not meet, or 0.
 pub fn line_fault(c: Counts, l: Line, k: usize, last: bool, n: usize) -> u32
     requires { ⌜ Few c × (3 ≤ n) × (n ≤ 4) ⌝ }
-    ensures { λ r. ⌜ ((t : Sheet) → Counted t c → Fault (tests t k last (lineFrom n l)) r) ⌝ }
+    ensures { λ r. ⌜ ((t : Sheet) → Counted t c → Fault (testsOf t k last (lineFrom n l)) r) ⌝ }
 {
     if l.column == 0 {
         let letter = l.letter;

@@ -5,12 +5,15 @@ ghost use mathlib.Core.Bool.{true};
 ghost use mathlib.Core.Option.{some};
 ghost use Prim.Native.Nat.{_≤_, _<_};
 ghost use Rattle.scope.specs.Sheet.{Sheet, mostSwitches, mostWishes, mostLiterals, fieldCount};
-ghost use Rattle.scope.specs.Reading.{literals, clause, joined, addWish, add, read};
+ghost use Rattle.scope.specs.Causes.{literals, clause, addWish};
+ghost use Rattle.scope.specs.Sheets.{SheetRead};
+ghost use Rattle.scope.specs.Source.{Gives};
+ghost use Rattle.scope.specs.Reading.{joined, add, read};
 ghost use Rattle.scope.specs.Tables.{literalCode};
 ghost use Rattle.sheet.specs.Tables.{outcome};
 ghost use Rattle.sheet.specs.Columns.{numberFrom};
 ghost use Rattle.sheet.specs.Lines.{letterFrom, numbersFrom};
-ghost use Rattle.sheet.specs.Steps.{Counted, WishColumns, Held, Room, Sized};
+ghost use Rattle.sheet.specs.Steps.{Counted, WishArrays, Held, Room, Sized};
 use crate::allowed::MOST_LITERALS;
 use crate::allowed::both;
 use crate::causes;
@@ -51,7 +54,7 @@ fn take_wish(
     xs: [Number; MOST_FIELDS],
 ) -> Counts
     requires { ⌜ (c .wishes < mostWishes) × (c .switches ≤ mostSwitches) × (literals (c .switches) (numbersFrom mostLiterals xs) ≡ true) ⌝ }
-    ensures { λ r. ⌜ ((t : Sheet) → Counted t c → WishColumns (t .wishes) (now (first .entry)) (now (second .entry)) (now (third .entry)) → Counted (addWish t (clause (numbersFrom mostLiterals xs))) r × WishColumns (t .wishes ++ clause (numbersFrom mostLiterals xs) ∷ []) (now (first .exit)) (now (second .exit)) (now (third .exit))) ⌝ }
+    ensures { λ r. ⌜ ((t : Sheet) → Counted t c → WishArrays (t .wishes) (now (first .entry)) (now (second .entry)) (now (third .entry)) → Counted (addWish t (clause (numbersFrom mostLiterals xs))) r × WishArrays (t .wishes ++ clause (numbersFrom mostLiterals xs) ∷ []) (now (first .exit)) (now (second .exit)) (now (third .exit))) ⌝ }
 {
     let x = literal_code(nth(xs, 0, MOST_LITERALS));
     let y = literal_code(nth(xs, 1, MOST_LITERALS));
@@ -59,7 +62,7 @@ fn take_wish(
     tables::put_wish(first, second, third, c, x, y, z)
 }
 
-// One more line, for which there is room, into the columns. Returns the counts with it.
+// One more line, for which there is room, into the arrays. Returns the counts with it.
 fn take_line(
     kind: &mut [u8; MOST_GATES],
     left: &mut [u32; MOST_GATES],
@@ -96,7 +99,7 @@ fn take_line(
     }
 }
 
-// The lines of a sheet whose length is right. The columns stand here and are lent, so that no line copies them.
+// The lines of a sheet whose length is right. The arrays stand here and are lent, so that no line copies them.
 fn read_lines(s: &[u8], n: usize, size: usize, count: usize) -> Tables
     requires { ⌜ Sized n (now s) size count ⌝ }
     ensures { λ r. ⌜ r ≡ outcome (read n (now (s .entry))) ⌝ }
@@ -175,7 +178,7 @@ fn read_form(s: &[u8], n: usize) -> Tables
 
 // What a sheet says, or the first cause to turn it down.
 pub fn read(s: &[u8]) -> Tables
-    ensures { λ r. ⌜ r ≡ outcome (read fieldCount (now (s .entry))) ⌝ }
+    ensures { λ r. ⌜ Gives (SheetRead fieldCount (now (s .entry))) outcome r ⌝ }
 {
     read_form(s, FIELD_COUNT)
 }

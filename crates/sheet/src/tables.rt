@@ -1,12 +1,12 @@
-// The tables of a sheet: what `read` returns, and the columns that its lines are put into one by one.
+// The tables of a sheet: what `read` returns, and the arrays that its lines are put into one by one.
 ghost use mathlib.Core.List.{[], _∷_, _++_};
 ghost use mathlib.Core.Path.{_≡_};
 ghost use Prim.Native.Nat.{ℕ, _≤_, _<_};
 ghost use Rattle.scope.specs.Sheet.{Sheet, Gate, Clause, mostGates, mostRules, mostWishes};
-ghost use Rattle.scope.specs.Reading.{addGate, addRule, addWish};
+ghost use Rattle.scope.specs.Causes.{addGate, addRule, addWish};
 ghost use Rattle.scope.specs.Tables.{kindOf, leftOf, rightOf, literalAt};
-ghost use Rattle.sheet.specs.Tables.{padded, pointOf, refusal};
-ghost use Rattle.sheet.specs.Steps.{Counted, GateColumns, WishColumns};
+ghost use Rattle.sheet.specs.Tables.{padded, pointOf, refusedTables};
+ghost use Rattle.sheet.specs.Steps.{Counted, GateArrays, WishArrays};
 
 pub const MOST_GATES: usize = 400;
 
@@ -47,7 +47,7 @@ pub struct Counts {
 }
 
 pub fn refused(number: u32, place: usize, column: usize) -> Tables
-    ensures { λ r. ⌜ r ≡ refusal number place column ⌝ }
+    ensures { λ r. ⌜ r ≡ refusedTables number place column ⌝ }
 {
     Tables {
         number,
@@ -97,7 +97,7 @@ pub fn with_wish(c: Counts) -> Counts
     r
 }
 
-// Each of these puts one more entry after those that the columns hold, and returns the counts with it.
+// Each of these puts one more entry after those that the arrays hold, and returns the counts with it.
 
 pub fn put_gate(
     kind: &mut [u8; MOST_GATES],
@@ -109,7 +109,7 @@ pub fn put_gate(
     q: u32,
 ) -> Counts
     requires { ⌜ c .gates < mostGates ⌝ }
-    ensures { λ r. ⌜ ((t : Sheet) (g : Gate) → Counted t c → GateColumns (t .gates) (now (kind .entry)) (now (left .entry)) (now (right .entry)) → letter ≡ kindOf g → p ≡ leftOf g → q ≡ rightOf g → Counted (addGate t g) r × GateColumns (t .gates ++ g ∷ []) (now (kind .exit)) (now (left .exit)) (now (right .exit))) ⌝ }
+    ensures { λ r. ⌜ ((t : Sheet) (g : Gate) → Counted t c → GateArrays (t .gates) (now (kind .entry)) (now (left .entry)) (now (right .entry)) → letter ≡ kindOf g → p ≡ leftOf g → q ≡ rightOf g → Counted (addGate t g) r × GateArrays (t .gates ++ g ∷ []) (now (kind .exit)) (now (left .exit)) (now (right .exit))) ⌝ }
 {
     let at = c.gates as usize;
     kind[at] = letter;
@@ -137,7 +137,7 @@ pub fn put_wish(
     z: u32,
 ) -> Counts
     requires { ⌜ c .wishes < mostWishes ⌝ }
-    ensures { λ r. ⌜ ((t : Sheet) (w : Clause) → Counted t c → WishColumns (t .wishes) (now (first .entry)) (now (second .entry)) (now (third .entry)) → x ≡ literalAt 0 w → y ≡ literalAt 1 w → z ≡ literalAt 2 w → Counted (addWish t w) r × WishColumns (t .wishes ++ w ∷ []) (now (first .exit)) (now (second .exit)) (now (third .exit))) ⌝ }
+    ensures { λ r. ⌜ ((t : Sheet) (w : Clause) → Counted t c → WishArrays (t .wishes) (now (first .entry)) (now (second .entry)) (now (third .entry)) → x ≡ literalAt 0 w → y ≡ literalAt 1 w → z ≡ literalAt 2 w → Counted (addWish t w) r × WishArrays (t .wishes ++ w ∷ []) (now (first .exit)) (now (second .exit)) (now (third .exit))) ⌝ }
 {
     let at = c.wishes as usize;
     first[at] = x;

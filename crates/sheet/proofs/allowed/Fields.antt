@@ -9,7 +9,7 @@ use lib.ListN.{length, drop, drop-of-length-le}
 use lib.Seq.{drop-cons}
 use Rattle.scope.specs.Sheet as scope
 use Rattle.scope.specs.Sheet.{plus}
-use Rattle.scope.specs.Reading.{is, literal, zeros, literals, at}
+use Rattle.scope.specs.Causes.{is, literal, zeros, literals, at}
 use Rattle.sheet.specs.Columns.{numberFrom}
 use Rattle.sheet.specs.Lines.{numbersFrom}
 use Rattle.sheet.specs.declared.field.Number.{Number}

@@ -10,15 +10,16 @@ use mathlib.Core.Logic.{_↔_, _≢_}
 use mathlib.Core.Option.{Option, none, some, Option·none-ne-some}
 use mathlib.Core.Path.{_≡_, refl, sym, ap, ap₂, _∙_}
 use lib.Dec.{eqb, leb, ltb}
-use lib.ListN.{length, getD, take, drop, length-append, length-drop, take-append-drop, replicate-append-replicate}
+use lib.ListN.{length, getD, take, drop, length-append, length-drop, take-append-drop}
 use lib.Seq.{take-suc, take-all, length-take-le, getD-take, getD-drop}
 use borrow.Author.Tests.{eqb-true, eqb-false, ne-eqb, lt-ltb, le-leb, leb-true}
 use Rattle.scope.specs.Sheet.{number, fieldSize, digit, decimal, signed, field, fits}
 use Rattle.scope.specs.Sheet as scope
 use Rattle.scope.specs.Reading.{full, formed, fieldOf}
 use Rattle.scope.specs.laws.Tests.{both, clash, same-some}
-use Rattle.scope.specs.laws.Fields.{part-length, by-digits, length-snoc, length-field, Fitting, fitting, field-iff}
-use Rattle.scope.specs.laws.Digits.{spaces, zero-digit, columns-of, Shown, shown-field, Part, part-digit, shown-part, spaces-part, blank-part}
+use Rattle.scope.specs.laws.Lists.{length-snoc, part-length}
+use Rattle.scope.specs.laws.Fields.{by-digits, length-field, Fitting, fitting, field-iff}
+use Rattle.scope.specs.laws.Digits.{spaces, spaces-snoc, zero-shown, columns-of, Shown, shown-field, Part, part-digit, shown-part, spaces-part, blank-part}
 use Rattle.scope.specs.laws.Beginnings.{fieldBegins, part-begins, field-begins, Stop}
 use Rattle.sheet.specs.declared.field.Scan.{Scan}
 use Rattle.sheet.specs.declared.field.Scan.the-variants.{Blank, Minus, Number, Bad}
@@ -39,9 +40,6 @@ by : {p : List ℕ} {left : ℕ} (t : Bool) {x y : Scan} → (t ≡ true → See
 unfolding pick
 by true f g = f refl
 by false f g = g refl
-
-one-space-more : (k : ℕ) → spaces k ++ code " " ∷ [] ≡ spaces (suc k)
-one-space-more k = replicate-append-replicate k 1 (code " ") ∙ ap spaces (add-one k)
 
 module _ (p : List ℕ) (b left : ℕ) where
   seen-digit : (m : Bool) (n : ℕ) → Part m n p → (code "0" ≤ b → 0 < n * 10 + (b - code "0")) → Seen (p ++ b ∷ []) left (withDigit m n b)
@@ -66,7 +64,7 @@ module _ (p : List ℕ) (b left : ℕ) where
   seen-next : (st : Scan) → Seen p (suc left) st → Seen (p ++ b ∷ []) left (next st b left)
   unfolding next unlessLast
   seen-next Blank (blank k e l) =
-      by (eqb b (code " ")) (λ t. by (eqb left 0) (λ z. lost) (λ z. blank (suc k) (begun (code " ") t ∙ one-space-more k) (more-left z))) (λ _.
+      by (eqb b (code " ")) (λ t. by (eqb left 0) (λ z. lost) (λ z. blank (suc k) (begun (code " ") t ∙ spaces-snoc k) (more-left z))) (λ _.
       by (eqb b (code "-")) (λ t. by (eqb left 0) (λ z. lost) (λ z. minus k (begun (code "-") t) (more-left z))) (λ _.
       by (eqb b (code "0")) (λ t. by (eqb left 0) (λ z. alone k (begun (code "0") t) (eqb-true left 0 z)) (λ z. lost)) (λ t.
       seen-digit false 0 (blank-part k p e) (not-zero t))))
@@ -90,7 +88,7 @@ seen p left h = seen-walk p [] left Blank (blank 0 refl h)
 
 seen-field : (p : List ℕ) (m : Bool) (n : ℕ) → length p ≡ fieldSize → Seen p 0 (Number m n) → (p ≡ field (number m n)) × (fits (number m n) ≡ true)
 unfolding field
-seen-field p m n l (alone k e z) = (rw zero-digit (columns-of p l k (code "0" ∷ []) e .0), refl)
+seen-field p m n l (alone k e z) = (rw zero-shown (columns-of p l k (code "0" ∷ []) e .0), refl)
 seen-field p m n l (shown h) = shown-field p l m n h
 
 walk-sound : (s : List ℕ) (m : Bool) (n : ℕ) → length s ≡ fieldSize → walk Blank s 0 ≡ Number m n → fieldOf s ≡ some (number m n)
@@ -142,7 +140,7 @@ unfolding walk next pick
 walk-plain n f = go (eqb n 0) refl
   where
     go : (t : Bool) → eqb n 0 ≡ t → walk Blank (decimal fieldSize n) 0 ≡ Number false n
-    go true z = rw (eqb-true n 0 z, zero-digit)
+    go true z = rw (eqb-true n 0 z, zero-shown)
     go false z = let p : n ≢ 0 = eqb-false n 0 z in walk-ends Blank false n (walk-digits Blank false after-spaces fieldSize n [] (omega arith) (f .small) (f .small))
 
 walk-minus : (n : ℕ) → Fitting true n → walk Blank (code "-" ∷ decimal fieldSize n) 0 ≡ Number true n

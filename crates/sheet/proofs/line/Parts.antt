@@ -14,11 +14,12 @@ use lib.ListN.{length, getD, take, drop, set, length-map, length-set}
 use lib.Seq.{take-take, take-add, take-suc-set, drop-at, drop-drop, drop-cons}
 use Rattle.scope.specs.Sheet.{fieldSize}
 use Rattle.scope.specs.Sheet as scope
-use Rattle.scope.specs.Reading.{when, also, fieldOf, fieldsOf, letterOf, joined, lineOf, formed, columnOf, lineSize, at}
+use Rattle.scope.specs.Causes.{lineSize, at}
+use Rattle.scope.specs.Reading.{when, also, fieldOf, fieldsOf, letterOf, joined, lineOf, formed, columnOf}
+use Rattle.scope.specs.laws.Scans.{wellFormed}
 use Rattle.scope.specs.laws.Beginnings.{some-formed, fieldBegins, fieldsBegin, Stop, field-stop, rest-stop, end-stop, letter-stop, after-letter, stop-column, column-is}
-use Rattle.scope.specs.laws.Fields.{part-length}
+use Rattle.scope.specs.laws.Lists.{part-length}
 use Rattle.scope.specs.laws.Lines.{line-iff}
-use Rattle.scope.specs.Causes.{wellFormed}
 use Rattle.sheet.specs.Columns.{numberFrom, fieldFrom, FieldRead}
 use Rattle.sheet.specs.Lines.{numbersFrom, fieldsFrom, FieldsRead, letterFrom, lineFrom, lineColumn, LineRead}
 use Rattle.sheet.specs.declared.field.Number.{Number}
@@ -35,8 +36,8 @@ take-front a b l = take-take a (a + b) l (omega arith)
 drop-front : (a b at : ℕ) (s : List ℕ) → at + a ≤ length s → drop a (take (a + b) (drop at s)) ≡ take b (drop (at + a) s)
 drop-front a b at s h = ap (drop a) (take-add a b (drop at s)) ∙ drop-at (take a (drop at s)) (take b (drop a (drop at s))) a (part-length s at a h) ∙ ap (take b) (drop-drop a at s)
 
-take-one : (n at : ℕ) (s : List ℕ) → at < length s → take (suc n) (drop at s) ≡ getD s at 0 ∷ take n (drop (at + 1) s)
-take-one n at s h = rw (add-one at, drop-cons s at 0 h)
+take-next : (n at : ℕ) (s : List ℕ) → at < length s → take (suc n) (drop at s) ≡ getD s at 0 ∷ take n (drop (at + 1) s)
+take-next n at s h = rw (add-one at, drop-cons s at 0 h)
 
 -- ---- the numbers read so far
 
@@ -153,7 +154,7 @@ module _ (s : List ℕ) (at n i : ℕ) (xs : List Number) (h : Reached s at n i 
     all = omega (arith, h .within)
 
     last : bytes s at n n ≡ end ∷ []
-    last = let z : n - n ≡ 0 = omega arith in rw (z, take-one 0 (at + n * fieldSize) s (omega arith))
+    last = let z : n - n ≡ 0 = omega arith in rw (z, take-next 0 (at + n * fieldSize) s (omega arith))
 
     ends : (t : Bool) → eqb end (code "\n") ≡ t → when t (numbersFrom n xs) ≡ fieldsOf n (take (n * fieldSize + 1) (drop at s))
     unfolding fieldsOf
@@ -176,7 +177,7 @@ module _ (s : List ℕ) (at n i : ℕ) (xs : List Number) (h : Reached s at n i 
 -- ---- the line
 
 line-parts : (s : List ℕ) (at n : ℕ) → at + lineSize n ≤ length s → take (lineSize n) (drop at s) ≡ getD s at 0 ∷ take (n * fieldSize + 1) (drop (at + 1) s)
-line-parts s at n l = let e : lineSize n ≡ suc (n * fieldSize + 1) = omega arith in rw (e, take-one (n * fieldSize + 1) at s (omega arith))
+line-parts s at n l = let e : lineSize n ≡ suc (n * fieldSize + 1) = omega arith in rw (e, take-next (n * fieldSize + 1) at s (omega arith))
 
 -- a letter, and the fields t after it: o and xs, which stop in column c of theirs
 module _ (n b : ℕ) (t : List ℕ) (xs : List scope.Number) where

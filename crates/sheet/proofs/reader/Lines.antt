@@ -12,18 +12,19 @@ use lib.ListN.{length, take, drop, replicate}
 use borrow.Author.Tests.{eqb-true, ltb-true}
 use Rattle.scope.specs.Sheet.{Number, Sheet, Letter, H, N, A, O, R, W, Z, mostGates, mostRules, mostWishes, mostLiterals}
 use Rattle.scope.specs.Sheet as scope
-use Rattle.scope.specs.Reading.{literals, zeros, when, joined, rows, tests, add, lengthOk, lineSize, lineCount, mostBytes, lineAt, columnAt, testsAt, read}
-use Rattle.scope.specs.Causes.{Met, before, Passed, size as wrong-size, line}
+use Rattle.scope.specs.Causes.{literals, zeros, tests, lengthOk, lineSize, lineCount, mostBytes, Met}
+use Rattle.scope.specs.Reading.{when, joined, testsOf, add, lineAt, columnAt, testsAt, read}
+use Rattle.scope.specs.laws.Scans.{before, Passed, size as wrong-size, line}
 use Rattle.scope.specs.laws.Tests.{clash, both, up-to}
 use Rattle.scope.specs.laws.Refusals.{cause-refuses, line-within, column-of, no-cause-accepts}
-use Rattle.sheet.specs.Tables.{filled, refusal, outcome}
+use Rattle.sheet.specs.Tables.{counts, acceptedTables, refusedTables, outcome}
 use Rattle.sheet.specs.Lines.{letterFrom, numbersFrom, lineFrom, LineRead}
 use Rattle.sheet.specs.Steps.{Counted, Held, Few, Fault, RoomFor, Room, Sized}
 use Rattle.sheet.specs.laws.Bounds.{Bounds, before-bounds}
-use Rattle.sheet.specs.laws.Held.{counts, tablesFrom, nothing-held, held-tables}
+use Rattle.sheet.specs.laws.Held.{tablesFrom, nothing-held, held-tables}
 use Rattle.sheet.specs.declared.line.Line.{Line}
 use Rattle.sheet.specs.declared.tables.Counts.{Counts}
-use Rattle.sheet.proofs.causes.Rows.{joined-none}
+use Rattle.sheet.proofs.causes.Tests.{joined-none}
 
 -- ---- what a line that passes finds room for
 
@@ -34,8 +35,8 @@ none-before n zero s e = (refl, refl, refl)
 none-before n (suc k) s e = absurd (omega arith)
 
 module _ (t : Sheet) (c : Counts) (k : ℕ) (last : Bool) (z : k ≡ 0 → (length (t .gates) ≡ 0) × (length (t .rules) ≡ 0) × (length (t .wishes) ≡ 0)) (b : Bounds t) (n : Counted t c) where
-  room-for : (l : Letter) (xs : List Number) → Met (rows t k last l xs) → RoomFor c l xs
-  unfolding rows
+  room-for : (l : Letter) (xs : List Number) → Met (tests t k last l xs) → RoomFor c l xs
+  unfolding tests
   room-for H xs (e, _) = let (p, q, r) = z (eqb-true k 0 (both (eqb k 0) (not last) e .0)) in (n .gates ∙ p, n .rules ∙ q, n .wishes ∙ r)
   room-for N xs (_, (e, _)) = rw (n .gates) (ltb-true (length (t .gates)) mostGates e)
   room-for A xs (_, (e, _)) = rw (n .gates) (ltb-true (length (t .gates)) mostGates e)
@@ -44,14 +45,14 @@ module _ (t : Sheet) (c : Counts) (k : ℕ) (last : Bool) (z : k ≡ 0 → (leng
   room-for W xs (_, (e, (f, _))) = rw (n .wishes, n .switches) (ltb-true (length (t .wishes)) mostWishes e, b .switches, both (literals (t .switches) (take mostLiterals xs)) (zeros (drop mostLiterals xs)) f .0)
   room-for Z xs m = tt
 
-  room : (o : Option scope.Line) → Met (tests t k last o) → Room c o
+  room : (o : Option scope.Line) → Met (testsOf t k last o) → Room c o
   room none m = tt
   room (some l) m = room-for (l .letter) (l .fields) m
 
 -- and that it is formed
-formed-line : (t : Sheet) (k : ℕ) (last : Bool) (c : Option Letter) (xs : List Number) (f : Bool) → Met (tests t k last (joined c (when f xs))) → joined c (when f xs) ≡ joined c (some xs)
+formed-line : (t : Sheet) (k : ℕ) (last : Bool) (c : Option Letter) (xs : List Number) (f : Bool) → Met (testsOf t k last (joined c (when f xs))) → joined c (when f xs) ≡ joined c (some xs)
 formed-line t k last c xs true m = refl
-formed-line t k last c xs false m = let p : Met (tests t k last none) = rw (joined-none c) at m in clash (p .0) refl
+formed-line t k last c xs false m = let p : Met (testsOf t k last none) = rw (joined-none c) at m in clash (p .0) refl
 
 -- ---- the lines before line k are taken in
 
@@ -77,7 +78,7 @@ module _ (n k : ℕ) (s : List ℕ) (c : Counts) (kind left right rule first sec
 -- line l of the code, which is line k, and f, the number of its first unmet test
 module _ (n k size count f : ℕ) (s : List ℕ) (c : Counts) (kind left right rule first second third : List ℕ) (l : Line) (z : Sized n s size count) (h : Reached n s k c kind left right rule first second third) (b : k < count)
     (e : LineRead n (take (lineSize n) (drop (k * size) s)) l)
-    (p : (t : Sheet) → Counted t c → Fault (tests t k (eqb (k + 1) count) (lineFrom n l)) f) where
+    (p : (t : Sheet) → Counted t c → Fault (testsOf t k (eqb (k + 1) count) (lineFrom n l)) f) where
   read-as : lineFrom n l ≡ lineAt n s k
   unfolding lineAt
   read-as = rw (z .size) at (e .line)
@@ -90,7 +91,7 @@ module _ (n k size count f : ℕ) (s : List ℕ) (c : Counts) (kind left right r
   unfolding columnAt
   column-as = rw (z .size) at (e .column)
 
-  pub turned-down : f ≢ 0 → refusal f (k + 1) (l .column) ≡ outcome (read n s)
+  pub turned-down : f ≢ 0 → refusedTables f (k + 1) (l .column) ≡ outcome (read n s)
   turned-down q =
       let w : k < lineCount n s = rw (z .count) at b in
       rw (cause-refuses n s (line k (z .right) w (h .passed) (told .first q) (column-of n s k w)), add-one, column-as)
@@ -121,11 +122,11 @@ module _ (n k size count f : ℕ) (s : List ℕ) (c : Counts) (kind left right r
 pub taken-in : (n k size count : ℕ) (s : List ℕ) (c : Counts) (kind left right rule first second third : List ℕ) → Sized n s size count → count ≤ k → Reached n s k c kind left right rule first second third → tablesFrom c kind left right rule first second third ≡ outcome (read n s)
 taken-in n k size count s c kind left right rule first second third z b h =
     let e : k ≡ lineCount n s = omega (arith, h .within, z .count) in
-    held-tables (before n s k) c kind left right rule first second third (h .held) ∙ rw (no-cause-accepts n s record { size = z .right; lines = λ j g. h .passed j (omega arith) }) (ap (λ j. filled (before n s j)) e)
+    held-tables (before n s k) c kind left right rule first second third (h .held) ∙ rw (no-cause-accepts n s record { size = z .right; lines = λ j g. h .passed j (omega arith) }) (ap (λ j. acceptedTables (before n s j)) e)
 
 -- the test of the length as the code makes it
 pub length-told : (n m : ℕ) {whole right : Bool} → right ≡ (ltb 0 m && whole) → whole ≡ (leb m (mostBytes n) && eqb (m % lineSize n) 0) → right ≡ lengthOk n m
 length-told n m e f = e ∙ ap (λ w. ltb 0 m && w) f
 
-pub wrong-length : (n : ℕ) (s : List ℕ) → lengthOk n (length s) ≡ false → refusal 1 0 0 ≡ outcome (read n s)
+pub wrong-length : (n : ℕ) (s : List ℕ) → lengthOk n (length s) ≡ false → refusedTables 1 0 0 ≡ outcome (read n s)
 wrong-length n s e = rw (cause-refuses n s (wrong-size e))

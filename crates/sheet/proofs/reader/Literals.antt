@@ -1,26 +1,24 @@
 -- The literals of a wish whose fields are right. Assumes nothing.
 use Prim.Native.Nat.{ℕ, zero, suc, _≤_}
 use native.Mathlib.Omega.{arith}
-use mathlib.Core.Bool.{Bool, true, false, cond, not, _&&_}
+use mathlib.Core.Bool.{Bool, true, false, cond, _&&_}
 use mathlib.Core.List.{List, [], _∷_}
-use mathlib.Core.Path.{_≡_, refl, sym, ap, ap₂, _∙_}
-use lib.Dec.{eqb, leb, ltb}
+use mathlib.Core.Path.{_≡_, refl, sym, ap, _∙_}
+use lib.Dec.{leb, ltb}
 use lib.ListN.{getD}
-use borrow.Author.Tests.{eqb-true, leb-true, not-true}
-use Rattle.scope.specs.Sheet.{Number, number, plus, mostSwitches}
-use Rattle.scope.specs.Reading.{is, literal, zeros, literals, clause, at}
+use borrow.Author.Tests.{leb-true}
+use Rattle.scope.specs.Sheet.{Number, plus, mostSwitches}
+use Rattle.scope.specs.Causes.{is, literal, zeros, literals, clause, at}
 use Rattle.scope.specs.laws.Tests.{both}
+use Rattle.scope.specs.laws.Steps.{is-plus}
 use Rattle.scope.specs.Tables.{literalCode, literalAt}
 use Rattle.sheet.specs.Columns.{numberFrom}
 use Rattle.sheet.specs.declared.field.Number as made
 
-zero-is : (x : Number) → is 0 x ≡ true → plus 0 ≡ x
-zero-is x e = let (m, z) = both (not (x .minus)) (eqb (x .size) 0) e in sym (ap₂ number (not-true (x .minus) m) (eqb-true (x .size) 0 z))
-
 zeros-at : (xs : List Number) (i : ℕ) → zeros xs ≡ true → plus 0 ≡ at xs i
 unfolding zeros
 zeros-at [] i e = refl
-zeros-at (x ∷ xs) zero e = zero-is x (both (is 0 x) (zeros xs) e .0)
+zeros-at (x ∷ xs) zero e = sym (is-plus 0 x (both (is 0 x) (zeros xs) e .0))
 zeros-at (x ∷ xs) (suc i) e = zeros-at xs i (both (is 0 x) (zeros xs) e .1)
 
 -- by whether the first field is 0
@@ -36,12 +34,12 @@ module _ (a : ℕ) (x : Number) (xs : List Number) (P : Bool → Type 0) where
 pub clause-at : (a : ℕ) (xs : List Number) (i : ℕ) → literals a xs ≡ true → getD (clause xs) i (plus 0) ≡ at xs i
 unfolding clause
 clause-at a [] i e = refl
-clause-at a (x ∷ xs) zero e = by-zero a x xs (λ t. getD (cond t [] (x ∷ clause xs)) 0 (plus 0) ≡ x) e (λ z _. zero-is x z) (λ _ _. refl)
+clause-at a (x ∷ xs) zero e = by-zero a x xs (λ t. getD (cond t [] (x ∷ clause xs)) 0 (plus 0) ≡ x) e (λ z _. sym (is-plus 0 x z)) (λ _ _. refl)
 clause-at a (x ∷ xs) (suc i) e = by-zero a x xs (λ t. getD (cond t [] (x ∷ clause xs)) (suc i) (plus 0) ≡ at xs i) e (λ _ z. zeros-at xs i z) (λ _ l. clause-at a xs i l)
 
 pub literals-small : (a : ℕ) (xs : List Number) (i : ℕ) → literals a xs ≡ true → at xs i .size ≤ a
 literals-small a [] i e = omega arith
-literals-small a (x ∷ xs) zero e = by-zero a x xs (λ t. x .size ≤ a) e (λ z _. omega (arith, ap (λ y. y .size) (zero-is x z))) (λ l _. leb-true (x .size) a (both (leb (x .size) a) (ltb 0 (x .size)) l .0))
+literals-small a (x ∷ xs) zero e = by-zero a x xs (λ t. x .size ≤ a) e (λ z _. omega (arith, ap (λ y. y .size) (is-plus 0 x z))) (λ l _. leb-true (x .size) a (both (leb (x .size) a) (ltb 0 (x .size)) l .0))
 literals-small a (x ∷ xs) (suc i) e = by-zero a x xs (λ t. at xs i .size ≤ a) e (λ _ z. omega (arith, ap (λ y. y .size) (zeros-at xs i z))) (λ _ l. literals-small a xs i l)
 
 -- x is field i, and r its code

@@ -1,18 +1,18 @@
 -- A valid sheet, and what the lines so far say, is within the limits. Assumes nothing.
 use Prim.Native.Nat.{ℕ, zero, suc, _≤_, _<_}
 use native.Mathlib.Omega.{arith}
-use mathlib.Core.Bool.{Bool, true, not}
+use mathlib.Core.Bool.{Bool}
 use mathlib.Core.List.{List, [], _∷_, _++_}
 use mathlib.Core.Option.{Option, none, some}
-use mathlib.Core.Path.{_≡_}
-use lib.Dec.{leb}
 use lib.ListN.{length}
-use borrow.Author.Tests.{leb-true, ltb-true}
+use borrow.Author.Tests.{ltb-true}
 use Rattle.scope.specs.Sheet.{Number, Sheet, Letter, H, N, A, O, R, W, Z, Line, mostSwitches, mostFaults, mostGates, mostRules, mostWishes, Valid}
-use Rattle.scope.specs.Reading.{upTo, at, rows, tests, started, make, add, lineAt, testsAt}
-use Rattle.scope.specs.Causes.{Met, before, Passed}
+use Rattle.scope.specs.Causes.{upTo, at, tests, started, make, Met}
+use Rattle.scope.specs.Reading.{testsOf, add, lineAt, testsAt}
+use Rattle.scope.specs.laws.Scans.{before, Passed}
 use Rattle.scope.specs.laws.Tests.{both}
-use Rattle.scope.specs.laws.Fields.{length-snoc}
+use Rattle.scope.specs.laws.Lists.{length-snoc}
+use Rattle.scope.specs.laws.Steps.{up-plus}
 
 pub record Bounds (t : Sheet) : Type 0 where
   pub switches : t .switches ≤ mostSwitches
@@ -27,26 +27,23 @@ started-bounds = record { switches = omega arith; faults = omega arith; gates = 
 pub valid-bounds : (t : Sheet) → Valid t → Bounds t
 valid-bounds t v = record { switches = v .switches; faults = v .faults; gates = v .few-gates; rules = v .few-rules; wishes = v .few-wishes }
 
-up-to-size : (m : ℕ) (x : Number) → upTo m x ≡ true → x .size ≤ m
-up-to-size m x e = leb-true (x .size) m (both (not (x .minus)) (leb (x .size) m) e .1)
-
 module _ (t : Sheet) (k : ℕ) (last : Bool) (b : Bounds t) where
-  one-more : {E : Type 0} (l : List E) (a : E) (m : ℕ) → length l < m → length (l ++ a ∷ []) ≤ m
-  one-more l a m h = omega (arith, length-snoc l a)
+  still-within : {E : Type 0} (l : List E) (a : E) (m : ℕ) → length l < m → length (l ++ a ∷ []) ≤ m
+  still-within l a m h = omega (arith, length-snoc l a)
 
-  pub make-bounds : (c : Letter) (xs : List Number) → Met (rows t k last c xs) → Bounds (make t c xs)
-  unfolding rows make
+  pub make-bounds : (c : Letter) (xs : List Number) → Met (tests t k last c xs) → Bounds (make t c xs)
+  unfolding tests make
   make-bounds H xs (_, (e, _)) =
       let (p, q) = both (upTo mostSwitches (at xs 0)) (upTo mostFaults (at xs 1)) e in
-      record { switches = up-to-size mostSwitches (at xs 0) p; faults = up-to-size mostFaults (at xs 1) q; gates = omega arith; rules = omega arith; wishes = omega arith }
-  make-bounds N xs (_, (e, _)) = record { switches = b .switches; faults = b .faults; gates = one-more (t .gates) _ mostGates (ltb-true (length (t .gates)) mostGates e); rules = b .rules; wishes = b .wishes }
-  make-bounds A xs (_, (e, _)) = record { switches = b .switches; faults = b .faults; gates = one-more (t .gates) _ mostGates (ltb-true (length (t .gates)) mostGates e); rules = b .rules; wishes = b .wishes }
-  make-bounds O xs (_, (e, _)) = record { switches = b .switches; faults = b .faults; gates = one-more (t .gates) _ mostGates (ltb-true (length (t .gates)) mostGates e); rules = b .rules; wishes = b .wishes }
-  make-bounds R xs (_, (e, _)) = record { switches = b .switches; faults = b .faults; gates = b .gates; rules = one-more (t .rules) _ mostRules (ltb-true (length (t .rules)) mostRules e); wishes = b .wishes }
-  make-bounds W xs (_, (e, _)) = record { switches = b .switches; faults = b .faults; gates = b .gates; rules = b .rules; wishes = one-more (t .wishes) _ mostWishes (ltb-true (length (t .wishes)) mostWishes e) }
+      record { switches = up-plus mostSwitches (at xs 0) p .1; faults = up-plus mostFaults (at xs 1) q .1; gates = omega arith; rules = omega arith; wishes = omega arith }
+  make-bounds N xs (_, (e, _)) = record { switches = b .switches; faults = b .faults; gates = still-within (t .gates) _ mostGates (ltb-true (length (t .gates)) mostGates e); rules = b .rules; wishes = b .wishes }
+  make-bounds A xs (_, (e, _)) = record { switches = b .switches; faults = b .faults; gates = still-within (t .gates) _ mostGates (ltb-true (length (t .gates)) mostGates e); rules = b .rules; wishes = b .wishes }
+  make-bounds O xs (_, (e, _)) = record { switches = b .switches; faults = b .faults; gates = still-within (t .gates) _ mostGates (ltb-true (length (t .gates)) mostGates e); rules = b .rules; wishes = b .wishes }
+  make-bounds R xs (_, (e, _)) = record { switches = b .switches; faults = b .faults; gates = b .gates; rules = still-within (t .rules) _ mostRules (ltb-true (length (t .rules)) mostRules e); wishes = b .wishes }
+  make-bounds W xs (_, (e, _)) = record { switches = b .switches; faults = b .faults; gates = b .gates; rules = b .rules; wishes = still-within (t .wishes) _ mostWishes (ltb-true (length (t .wishes)) mostWishes e) }
   make-bounds Z xs m = b
 
-  add-bounds : (o : Option Line) → Met (tests t k last o) → Bounds (add t o)
+  add-bounds : (o : Option Line) → Met (testsOf t k last o) → Bounds (add t o)
   add-bounds none m = b
   add-bounds (some l) m = make-bounds (l .letter) (l .fields) m
 

@@ -1,19 +1,16 @@
--- Counts and columns as the code holds them are the tables of a sheet. Assumes nothing.
+-- Counts and arrays as the code holds them are the tables of a sheet. Assumes nothing.
 use Prim.Native.Nat.{ℕ}
 use mathlib.Core.List.{List}
 use mathlib.Core.Path.{_≡_, refl}
 use lib.ListN.{replicate}
 use Rattle.scope.specs.Sheet.{Sheet, mostGates, mostRules, mostWishes}
-use Rattle.scope.specs.Reading.{started}
-use Rattle.sheet.specs.Tables.{padded, tables, filled}
+use Rattle.scope.specs.Causes.{started}
+use Rattle.sheet.specs.Tables.{counts, padded, tables, acceptedTables}
 use Rattle.sheet.specs.Steps.{Held}
 use Rattle.sheet.specs.declared.tables.Tables.{Tables}
 use Rattle.sheet.specs.declared.tables.Counts.{Counts}
 
--- the counts and the tables as the code makes them
-abbrev pub counts : (switches faults gates rules wishes : ℕ) → Counts
-counts a f g r w = record { switches = a; faults = f; gates = g; rules = r; wishes = w }
-
+-- the tables as the code makes them
 abbrev pub tablesFrom : Counts → (kind left right rule first second third : List ℕ) → Tables
 tablesFrom c kind left right rule first second third = record {
   number = 0;
@@ -44,6 +41,6 @@ nothing-held = record {
 }
 
 module _ (t : Sheet) (c : Counts) (kind left right rule first second third : List ℕ) (h : Held t c kind left right rule first second third) where
-  pub held-tables : tablesFrom c kind left right rule first second third ≡ filled t
+  pub held-tables : tablesFrom c kind left right rule first second third ≡ acceptedTables t
   unfolding tables
   held-tables = rw (h .counts .switches, h .counts .faults, h .counts .gates, h .counts .rules, h .counts .wishes, h .gates .kinds, h .gates .lefts, h .gates .rights, h .rules, h .wishes .firsts, h .wishes .seconds, h .wishes .thirds)

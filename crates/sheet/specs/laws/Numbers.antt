@@ -7,7 +7,7 @@ use mathlib.Core.Path.{_≡_, sym, _∙_}
 use lib.ListN.{length, getD, take, length-map, List·getD-map}
 use lib.Seq.{length-take-le, take-take, getD-take}
 use Rattle.scope.specs.Sheet.{plus}
-use Rattle.scope.specs.Reading.{at}
+use Rattle.scope.specs.Causes.{at}
 use Rattle.sheet.specs.Columns.{numberFrom}
 use Rattle.sheet.specs.Lines.{numbersFrom}
 use Rattle.sheet.specs.declared.field.Number.{Number}

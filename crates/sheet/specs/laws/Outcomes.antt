@@ -1,15 +1,14 @@
 -- The number that a reader returns tells whether the sheet is accepted, and its counts are within the limits. Assumes nothing.
 use Prim.Native.Nat.{ℕ, _≤_}
 use native.Mathlib.Omega.{arith}
-use mathlib.Core.List.{List}
 use mathlib.Core.Logic.{_≢_}
 use mathlib.Core.Path.{_≡_, refl, sym, ap, _∙_}
-use Rattle.scope.specs.Sheet.{Sheet, fieldCount, mostSwitches, mostFaults, mostGates, mostRules, mostWishes}
-use Rattle.scope.specs.Reading.{started, Read, accepted, refused, read}
-use Rattle.scope.specs.Source.{Source}
-use Rattle.scope.specs.Claims.{sheet-source}
+use Rattle.scope.specs.Sheet.{Sheet, mostSwitches, mostFaults, mostGates, mostRules, mostWishes}
+use Rattle.scope.specs.Causes.{started, Read, accepted, refused}
+use Rattle.scope.specs.Source.{Source, Gives, Form, ReadFrom}
+use Rattle.scope.specs.Claims.{form-source}
 use Rattle.sheet.specs.declared.tables.Tables.{Tables}
-use Rattle.sheet.specs.Tables.{tables, refusal, outcome, Sourced}
+use Rattle.sheet.specs.Tables.{tables, refusedTables, outcome, Sourced, AnySource}
 use Rattle.sheet.specs.laws.Bounds.{Bounds, started-bounds, valid-bounds}
 
 -- ---- the counts, also after a refusal
@@ -42,7 +41,7 @@ module _ (r : Read) (h : Source r) (u : Tables) (e : u ≡ outcome r) where
     where
       go : (o : Read) → r ≡ o → r ≡ refused (u .number) (u .place) (u .column)
       go (accepted t) f = absurd (z (ap (λ v. v .number) (e ∙ ap outcome f)))
-      go (refused c place column) f = let g : u ≡ refusal c place column = e ∙ ap outcome f in rw g f
+      go (refused c place column) f = let g : u ≡ refusedTables c place column = e ∙ ap outcome f in rw g f
 
 pub within : (u : Tables) → Sourced u → Within u
 within u h = go (h .told) refl
@@ -51,7 +50,12 @@ within u h = go (h .told) refl
     go (accepted t) f = rw (h .tables ∙ ap outcome f) (tables-within 0 0 0 t (valid-bounds t (h .source .valid t f)))
     go (refused c place column) f = rw (h .tables ∙ ap outcome f) (tables-within c place column (started 0 0) started-bounds)
 
--- ---- a sheet's
+-- ---- what a reader returned for a sheet or a text
 
-pub sheet-sourced : (s : List ℕ) (u : Tables) → u ≡ outcome (read fieldCount s) → Sourced u
-sheet-sourced s u e = record { told = read fieldCount s; source = sheet-source s; tables = e }
+module _ (x : Form) (u : Tables) (g : Gives (ReadFrom x) outcome u) where
+  pub sourced : Sourced u
+  sourced = record { told = g .read; source = form-source x (g .read) (g .is-read); tables = g .given }
+
+  -- what holds for every source with these tables holds for what was read
+  pub given-any : {B : Type 0} (f : Read → B) (b : B) → AnySource u (λ r. b ≡ f r) → Gives (ReadFrom x) f b
+  given-any f b any = record { read = g .read; is-read = g .is-read; given = any (g .read) (form-source x (g .read) (g .is-read)) (g .given) }

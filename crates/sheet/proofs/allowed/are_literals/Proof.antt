@@ -1,8 +1,10 @@
+-- The invariant: whether the fields from i on are literals and then zeros is whether all are. A literal leaves that as it is; a 0
+-- leaves it to the fields after it; any other number settles it.
 use Rattle.sheet.proofs.allowed.Fields.{literals-end, literals-fill, literals-go-on, literals-stop}
 use borrow.Author.Tests.{not-true, not-false}
 use Rattle.sheet.specs.Lines.{numbersFrom}
 use Rattle.scope.specs.Sheet.{mostLiterals}
-use Rattle.scope.specs.Reading.{literals}
+use Rattle.scope.specs.Causes.{literals}
 use Prim.Native.Nat.{_-_, _≤_}
 use lib.ListN.{drop}
 use borrow.Author.Needs.{needs}

@@ -1,3 +1,4 @@
+-- The conjunction of the two tests that the code makes.
 use borrow.Author.Needs.{needs}
 use Rattle.sheet.proofs.allowed.is_point.Statement.{statement}
 use Rattle.sheet.proofs.allowed.is_point.Tie as tie

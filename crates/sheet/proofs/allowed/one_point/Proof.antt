@@ -1,4 +1,5 @@
-use Rattle.scope.specs.Reading.{point}
+-- The definition is the conjunction of the two tests, the first on field 0.
+use Rattle.scope.specs.Causes.{point}
 use mathlib.Core.Bool.{_&&_}
 use mathlib.Core.Path.{ap, ap₂, _∙_}
 use borrow.Author.Needs.{needs}

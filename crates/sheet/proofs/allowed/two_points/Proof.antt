@@ -1,4 +1,5 @@
-use Rattle.scope.specs.Reading.{point}
+-- The definition is the conjunction of the three tests, the first two on fields 0 and 1.
+use Rattle.scope.specs.Causes.{point}
 use mathlib.Core.Bool.{_&&_}
 use mathlib.Core.Path.{ap, ap₂, _∙_}
 use borrow.Author.Needs.{needs}

@@ -1,7 +1,9 @@
+-- The invariant: whether the fields from i on are zeros is whether all from `from` on are. A 0 leaves that as it is, another number
+-- settles it.
 use borrow.Author.Tests.{not-true, not-false}
 use Rattle.sheet.proofs.allowed.Fields.{zeros-end, zeros-go-on, zeros-stop}
 use Rattle.sheet.specs.Lines.{numbersFrom}
-use Rattle.scope.specs.Reading.{zeros}
+use Rattle.scope.specs.Causes.{zeros}
 use mathlib.Core.Path.{_≡_, refl, sym, _∙_}
 use Prim.Native.Nat.{_-_, _≤_}
 use lib.ListN.{drop}

@@ -1,5 +1,6 @@
-use Rattle.scope.specs.Reading.{rows, is}
-use Rattle.sheet.specs.laws.Rows.{row, none-left}
+-- The tests of the code are those of the definition, one by one, and in its order.
+use Rattle.scope.specs.Causes.{tests, is}
+use Rattle.sheet.specs.laws.Tests.{test, none-left}
 use native.Mathlib.Omega.{arith}
 use mathlib.Core.Path.{ap, _∙_}
 use borrow.Author.Needs.{needs}
@@ -18,18 +19,18 @@ nth-requires c κs = search needs
 is-number-requires : tie.Need-is-number-requires
 is-number-requires c κs = search needs
 
-row-requires : tie.Need-row-requires
-row-requires c κs = search needs
+test-requires : tie.Need-test-requires
+test-requires c κs = search needs
 
-row-requires-2 : tie.Need-row-requires-2
-row-requires-2 c κs = search needs
+test-requires-2 : tie.Need-test-requires-2
+test-requires-2 c κs = search needs
 
-row-requires-3 : tie.Need-row-requires-3
-row-requires-3 c κs = search needs
+test-requires-3 : tie.Need-test-requires-3
+test-requires-3 c κs = search needs
 
 returns : tie.Need-returns
-unfolding rows
-returns c = λ t. row 3 (c .row3 .ensures) (c .before .before .before .before .before .before .both .ensures) (omega arith) (row 6 (c .before .row2 .ensures) (c .before .before .before .before .before .unused .ensures) (omega arith) (row 7 (c .before .before .row .ensures) (c .before .before .before .is-number .ensures ∙ ap (is _) (c .before .before .before .before .nth .ensures)) (omega arith) none-left))
+unfolding tests
+returns c = λ t. test 3 (c .test3 .ensures) (c .before .before .before .before .before .before .both .ensures) (omega arith) (test 6 (c .before .test2 .ensures) (c .before .before .before .before .before .unused .ensures) (omega arith) (test 7 (c .before .before .test .ensures) (c .before .before .before .is-number .ensures ∙ ap (is _) (c .before .before .before .before .nth .ensures)) (omega arith) none-left))
 
 pub end-fault-spec : {M : Type 1} → statement M
 end-fault-spec =
@@ -39,7 +40,7 @@ end-fault-spec =
     unused-requires
     nth-requires
     is-number-requires
-    row-requires
-    row-requires-2
-    row-requires-3
+    test-requires
+    test-requires-2
+    test-requires-3
     returns)

@@ -1,6 +1,7 @@
+-- The tests are those of the definition, which ask for the length of the sheet's lists, which the counts are.
 use Rattle.scope.specs.Sheet.{mostGates}
 use lib.Dec.{eqb, ltb}
-use Rattle.sheet.specs.laws.Rows.{row, none-left}
+use Rattle.sheet.specs.laws.Tests.{test, none-left}
 use native.Mathlib.Omega.{arith}
 use mathlib.Core.Bool.{_&&_}
 use mathlib.Core.Path.{refl, ap, ap₂, _∙_}
@@ -17,17 +18,17 @@ both-requires c κs = search needs
 both-requires-2 : tie.Need-both-requires-2
 both-requires-2 c κs = search needs
 
-row-requires : tie.Need-row-requires
-row-requires c κs = search needs
+test-requires : tie.Need-test-requires
+test-requires c κs = search needs
 
-row-requires-2 : tie.Need-row-requires-2
-row-requires-2 c κs = search needs
+test-requires-2 : tie.Need-test-requires-2
+test-requires-2 c κs = search needs
 
-row-requires-3 : tie.Need-row-requires-3
-row-requires-3 c κs = search needs
+test-requires-3 : tie.Need-test-requires-3
+test-requires-3 c κs = search needs
 
 returns : tie.Need-returns
-returns c = λ t h. row 3 (c .row3 .ensures) (c .before .before .before .before .both2 .ensures ∙ ap₂ (λ a b. a && b) (c .before .before .before .before .before .before .before .before .between .ensures) (c .before .before .before .before .before .both .ensures ∙ ap₂ (λ a b. eqb a 0 && eqb b 0) (h .rules) (h .wishes))) (omega arith) (row 5 (c .before .row2 .ensures) (ap (λ a. ltb a mostGates) (h .gates)) (omega arith) (row 6 (c .before .before .row .ensures) refl (omega arith) none-left))
+returns c = λ t h. test 3 (c .test3 .ensures) (c .before .before .before .before .both2 .ensures ∙ ap₂ (λ a b. a && b) (c .before .before .before .before .before .before .before .before .between .ensures) (c .before .before .before .before .before .both .ensures ∙ ap₂ (λ a b. eqb a 0 && eqb b 0) (h .rules) (h .wishes))) (omega arith) (test 5 (c .before .test2 .ensures) (ap (λ a. ltb a mostGates) (h .gates)) (omega arith) (test 6 (c .before .before .test .ensures) refl (omega arith) none-left))
 
 pub gate-fault-spec : {M : Type 1} → statement M
 gate-fault-spec =
@@ -36,7 +37,7 @@ gate-fault-spec =
     between-requires
     both-requires
     both-requires-2
-    row-requires
-    row-requires-2
-    row-requires-3
+    test-requires
+    test-requires-2
+    test-requires-3
     returns)

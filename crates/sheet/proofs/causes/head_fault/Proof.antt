@@ -1,6 +1,7 @@
+-- The tests of the code are those of the definition, one by one, and in its order.
 use Rattle.scope.specs.Sheet.{mostSwitches, mostFaults}
-use Rattle.scope.specs.Reading.{rows, upTo}
-use Rattle.sheet.specs.laws.Rows.{row, none-left}
+use Rattle.scope.specs.Causes.{tests, upTo}
+use Rattle.sheet.specs.laws.Tests.{test, none-left}
 use native.Mathlib.Omega.{arith}
 use mathlib.Core.Bool.{_&&_}
 use mathlib.Core.Path.{ap, ap₂, _∙_}
@@ -29,18 +30,18 @@ both-requires-2 c κs = search needs
 unused-requires : tie.Need-unused-requires
 unused-requires c κs = search needs
 
-row-requires : tie.Need-row-requires
-row-requires c κs = search needs
+test-requires : tie.Need-test-requires
+test-requires c κs = search needs
 
-row-requires-2 : tie.Need-row-requires-2
-row-requires-2 c κs = search needs
+test-requires-2 : tie.Need-test-requires-2
+test-requires-2 c κs = search needs
 
-row-requires-3 : tie.Need-row-requires-3
-row-requires-3 c κs = search needs
+test-requires-3 : tie.Need-test-requires-3
+test-requires-3 c κs = search needs
 
 returns : tie.Need-returns
-unfolding rows
-returns c = λ t. row 3 (c .row3 .ensures) (c .before .before .before .before .before .before .before .before .before .both .ensures) (omega arith) (row 4 (c .before .row2 .ensures) (c .before .before .before .before .both2 .ensures ∙ ap₂ (λ a b. a && b) (c .before .before .before .before .before .before .before .is-up-to .ensures ∙ ap (upTo mostSwitches) (c .before .before .before .before .before .before .before .before .nth .ensures)) (c .before .before .before .before .before .is-up-to2 .ensures ∙ ap (upTo mostFaults) (c .before .before .before .before .before .before .nth2 .ensures))) (omega arith) (row 6 (c .before .before .row .ensures) (c .before .before .before .unused .ensures) (omega arith) none-left))
+unfolding tests
+returns c = λ t. test 3 (c .test3 .ensures) (c .before .before .before .before .before .before .before .before .before .both .ensures) (omega arith) (test 4 (c .before .test2 .ensures) (c .before .before .before .before .both2 .ensures ∙ ap₂ (λ a b. a && b) (c .before .before .before .before .before .before .before .is-up-to .ensures ∙ ap (upTo mostSwitches) (c .before .before .before .before .before .before .before .before .nth .ensures)) (c .before .before .before .before .before .is-up-to2 .ensures ∙ ap (upTo mostFaults) (c .before .before .before .before .before .before .nth2 .ensures))) (omega arith) (test 6 (c .before .before .test .ensures) (c .before .before .before .unused .ensures) (omega arith) none-left))
 
 pub head-fault-spec : {M : Type 1} → statement M
 head-fault-spec =
@@ -53,7 +54,7 @@ head-fault-spec =
     is-up-to-requires-2
     both-requires-2
     unused-requires
-    row-requires
-    row-requires-2
-    row-requires-3
+    test-requires
+    test-requires-2
+    test-requires-3
     returns)

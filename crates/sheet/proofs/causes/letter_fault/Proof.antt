@@ -1,5 +1,7 @@
-use Rattle.scope.specs.Reading.{rows}
-use Rattle.sheet.proofs.causes.Rows.{form}
+-- By the letter, each as its own function promises; a gate is handed the test of its fields. An unknown letter makes no line, and a
+-- line that is none is turned down by its first test.
+use Rattle.scope.specs.Causes.{tests}
+use Rattle.sheet.proofs.causes.Tests.{form}
 use borrow.Author.Needs.{needs}
 use Rattle.sheet.proofs.causes.letter_fault.Statement.{statement}
 use Rattle.sheet.proofs.causes.letter_fault.Tie as tie
@@ -71,15 +73,15 @@ returns : tie.Need-returns
 returns c = λ t h. rw (c .before .enum-told .given .1) (c .head-fault .ensures t)
 
 returns-2 : tie.Need-returns-2
-unfolding rows
+unfolding tests
 returns-2 c = λ t h. rw (c .before .before .before .enum-told2 .given .1) (rw (c .before .one-point .ensures, c .before .before .all-points .ensures t h) at (c .gate-fault .ensures t h))
 
 returns-3 : tie.Need-returns-3
-unfolding rows
+unfolding tests
 returns-3 c = λ t h. rw (c .before .before .before .enum-told3 .given .1) (rw (c .before .two-points .ensures, c .before .before .all-points2 .ensures t h) at (c .gate-fault2 .ensures t h))
 
 returns-4 : tie.Need-returns-4
-unfolding rows
+unfolding tests
 returns-4 c = λ t h. rw (c .before .before .before .enum-told4 .given .1) (rw (c .before .two-points2 .ensures, c .before .before .all-points3 .ensures t h) at (c .gate-fault3 .ensures t h))
 
 returns-5 : tie.Need-returns-5

@@ -1,6 +1,7 @@
+-- Where its column is 0 the line is that of its letter and numbers; else it is none, and is turned down by its first test.
 use borrow.Author.Tests.{eq-eqb, ne-eqb}
 use Rattle.sheet.specs.Lines.{letterFrom, lineFrom}
-use Rattle.sheet.proofs.causes.Rows.{form, joined-none}
+use Rattle.sheet.proofs.causes.Tests.{form, joined-none}
 use borrow.Author.Needs.{needs}
 use Rattle.sheet.proofs.causes.line_fault.Statement.{statement}
 use Rattle.sheet.proofs.causes.line_fault.Tie as tie

@@ -1,8 +1,10 @@
+-- The tests are those of the definition, which ask for the length of the sheet's lists and for its switches, which the counts tell,
+-- and for the first three of the n fields, which are the first three of the array.
 use Rattle.sheet.specs.laws.Numbers.{front-numbers}
-use Rattle.scope.specs.Reading.{rows, literals}
+use Rattle.scope.specs.Causes.{tests, literals}
 use Rattle.scope.specs.Sheet.{mostWishes, mostLiterals}
 use lib.Dec.{ltb}
-use Rattle.sheet.specs.laws.Rows.{row, none-left}
+use Rattle.sheet.specs.laws.Tests.{test, none-left}
 use native.Mathlib.Omega.{arith}
 use mathlib.Core.Bool.{_&&_}
 use mathlib.Core.Path.{sym, ap, ap₂, _∙_}
@@ -22,18 +24,18 @@ unused-requires c κs = search needs
 both-requires : tie.Need-both-requires
 both-requires c κs = search needs
 
-row-requires : tie.Need-row-requires
-row-requires c κs = search needs
+test-requires : tie.Need-test-requires
+test-requires c κs = search needs
 
-row-requires-2 : tie.Need-row-requires-2
-row-requires-2 c κs = search needs
+test-requires-2 : tie.Need-test-requires-2
+test-requires-2 c κs = search needs
 
-row-requires-3 : tie.Need-row-requires-3
-row-requires-3 c κs = search needs
+test-requires-3 : tie.Need-test-requires-3
+test-requires-3 c κs = search needs
 
 returns : tie.Need-returns
-unfolding rows
-returns c = λ t h. row 3 (c .row3 .ensures) (c .before .before .before .before .before .before .before .between .ensures) (omega arith) (row 5 (c .before .row2 .ensures) (ap (λ a. ltb a mostWishes) (h .wishes)) (omega arith) (row 6 (c .before .before .row .ensures) (c .before .before .before .both .ensures ∙ ap₂ (λ a b. a && b) (c .before .before .before .before .before .are-literals .ensures ∙ ap₂ literals (h .switches) (sym (front-numbers mostLiterals _ _ (c .before .before .before .before .before .before .before .before .pre .0)))) (c .before .before .before .before .unused .ensures)) (omega arith) none-left))
+unfolding tests
+returns c = λ t h. test 3 (c .test3 .ensures) (c .before .before .before .before .before .before .before .between .ensures) (omega arith) (test 5 (c .before .test2 .ensures) (ap (λ a. ltb a mostWishes) (h .wishes)) (omega arith) (test 6 (c .before .before .test .ensures) (c .before .before .before .both .ensures ∙ ap₂ (λ a b. a && b) (c .before .before .before .before .before .are-literals .ensures ∙ ap₂ literals (h .switches) (sym (front-numbers mostLiterals _ _ (c .before .before .before .before .before .before .before .before .pre .0)))) (c .before .before .before .before .unused .ensures)) (omega arith) none-left))
 
 pub wish-fault-spec : {M : Type 1} → statement M
 wish-fault-spec =
@@ -43,7 +45,7 @@ wish-fault-spec =
     are-literals-requires
     unused-requires
     both-requires
-    row-requires
-    row-requires-2
-    row-requires-3
+    test-requires
+    test-requires-2
+    test-requires-3
     returns)

@@ -1,3 +1,4 @@
+-- The definition tests for 0 as the code does, so the branch taken decides its test.
 use Rattle.sheet.proofs.Rules.{tests}
 use Rattle.sheet.specs.Columns.{next, pick}
 use borrow.Author.Needs.{needs}

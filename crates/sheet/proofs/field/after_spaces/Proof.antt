@@ -1,3 +1,4 @@
+-- The definition tests for a space, a minus and 0 in the order of the code, so the branch taken decides its tests.
 use borrow.Author.Tests.{eq-eqb, ne-eqb}
 use Rattle.sheet.proofs.Rules.{tests}
 use Rattle.sheet.specs.Columns.{next, pick}

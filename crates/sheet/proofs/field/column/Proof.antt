@@ -1,3 +1,4 @@
+-- By what is held so far, as the definition has it.
 use Rattle.sheet.specs.Columns.{next}
 use borrow.Author.Needs.{needs}
 use Rattle.sheet.proofs.field.column.Statement.{statement}

@@ -1,3 +1,5 @@
+-- The invariant: what is held is what the walk over the first i columns holds, and it is not bad. So those columns begin a number;
+-- where one more makes it bad no number begins so, and after all five the walk holds the number of the field.
 use Prim.Native.Nat.{_-_}
 use Rattle.scope.specs.Sheet.{fieldSize}
 use Rattle.sheet.proofs.field.Columns.{Reached, begun, onward, stopped, ended}

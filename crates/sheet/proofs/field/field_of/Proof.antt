@@ -1,3 +1,4 @@
+-- Only a number is found, and its column is 0; all else stops in the last column.
 use native.Mathlib.Omega.{arith}
 use Rattle.sheet.specs.Columns.{fieldFrom}
 use borrow.Author.Needs.{needs}

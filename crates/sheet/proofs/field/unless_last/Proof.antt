@@ -1,3 +1,4 @@
+-- The definition tests whether a column is left as the code does.
 use borrow.Author.Tests.{eq-eqb, ne-eqb}
 use Rattle.sheet.specs.Columns.{unlessLast, pick}
 use Rattle.sheet.proofs.field.unless_last.Statement.{statement}

@@ -1,3 +1,4 @@
+-- One test of the definition is the conjunction of the three of the code; past them n is below 10000, so one more digit fits a u32.
 use Rattle.sheet.proofs.Rules.{tests}
 use Rattle.sheet.specs.Columns.{withDigit, pick}
 use borrow.Author.Needs.{needs}

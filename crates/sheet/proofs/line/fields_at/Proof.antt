@@ -1,3 +1,5 @@
+-- The invariant: the i numbers held and the fields left, read from their bytes, are together the fields of the whole. A field that
+-- stops makes the whole stop, i fields further on; at the end only the line feed is left.
 use Prim.Native.Nat.{_-_}
 use mathlib.Core.Path.{refl}
 use Rattle.sheet.proofs.line.Parts.{Reached, begun, field-taken, field-lost, line-fed, not-fed}

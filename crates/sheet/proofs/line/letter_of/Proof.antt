@@ -1,3 +1,4 @@
+-- The definition compares the byte with the letters in the order of the code, so the branch taken decides its tests.
 use Rattle.scope.specs.Reading.{letterOf}
 use Rattle.sheet.proofs.Rules.{tests}
 use Rattle.sheet.proofs.line.letter_of.Statement.{statement}

@@ -1,3 +1,5 @@
+-- The bytes of a line are its letter and those of its fields, and each of the two parts is read: the line stops where the first part
+-- that is not formed does.
 use Rattle.sheet.proofs.line.Parts.{line-is}
 use borrow.Author.Needs.{needs}
 use Rattle.sheet.proofs.line.line_at.Statement.{statement}

@@ -1,3 +1,4 @@
+-- The definition makes the two tests of the code.
 use native.Mathlib.Numerals.{add-one}
 use borrow.Author.Tests.{eq-eqb, ne-eqb, not-true, not-false}
 use Rattle.sheet.specs.Lines.{lineColumn}

@@ -1,3 +1,4 @@
+-- Number i of the array is number i of its first n, since i is below n.
 use Rattle.sheet.specs.laws.Numbers.{at-numbers}
 use borrow.Author.Needs.{needs}
 use Rattle.sheet.proofs.line.nth.Statement.{statement}

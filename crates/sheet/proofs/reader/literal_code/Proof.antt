@@ -1,3 +1,4 @@
+-- The definition tests the sign as the code does; a size up to 20 makes a code that fits.
 use borrow.Author.Needs.{needs}
 use Rattle.sheet.proofs.reader.literal_code.Statement.{statement}
 use Rattle.sheet.proofs.reader.literal_code.Tie as tie

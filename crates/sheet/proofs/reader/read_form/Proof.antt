@@ -1,3 +1,4 @@
+-- The three tests of the code are the test of the length; past them the bytes make whole lines, as many as the quotient says.
 use Rattle.sheet.proofs.reader.Lines.{length-told, wrong-length}
 use lib.ListN.{length}
 use mathlib.Core.Path.{sym, _∙_}

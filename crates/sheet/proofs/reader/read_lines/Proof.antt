@@ -1,3 +1,6 @@
+-- The invariant: the first k lines pass, and the tables hold what they say. A line that does not meet a test is the first cause, and
+-- the sheet is refused for it; one that meets all finds room, and is taken in. At the end all lines pass, so the sheet is accepted as
+-- what is held.
 use Prim.Native.Nat.{_-_}
 use native.Mathlib.Omega.{arith}
 use mathlib.Core.Path.{_∙_}
@@ -39,7 +42,10 @@ returns : tie.Need-returns Inv-loop μ-loop
 returns c = c .refused .ensures ∙ turned-down _ _ _ _ _ _ _ _ _ _ _ _ _ _ _ (c .before .before .before .before .before .before .before .pre) (c .before .before .before .before .before .loop .inv) (c .before .before .before .before .loop-test .taken) (c .before .before .before .line-at .ensures) (c .before .before .line-fault .ensures) (c .before .if1 .taken)
 
 take-line-requires : tie.Need-take-line-requires Inv-loop μ-loop
-take-line-requires c κs = (found-room _ _ _ _ _ _ _ _ _ _ _ _ _ _ _ (c .before .before .before .before .before .before .before .before .before .before .before .before .before .before .pre) (c .before .before .before .before .before .before .before .before .before .before .before .before .loop .inv) (c .before .before .before .before .before .before .before .before .before .before .before .loop-test .taken) (c .before .before .before .before .before .before .before .before .before .before .line-at .ensures) (c .before .before .before .before .before .before .before .before .before .line-fault .ensures) (c .before .before .before .before .before .before .before .before .if1 .left), c .before .before .before .before .before .before .before .before .before .before .before .before .before .before .pre .least, c .before .before .before .before .before .before .before .before .before .before .before .before .before .before .pre .most)
+take-line-requires c κs =
+    let e = c .before .before .before .before .before .before .before .before in
+    let p = e .before .before .before .before .before .before .pre in
+    (found-room _ _ _ _ _ _ _ _ _ _ _ _ _ _ _ p (e .before .before .before .before .loop .inv) (e .before .before .before .loop-test .taken) (e .before .before .line-at .ensures) (e .before .line-fault .ensures) (e .if1 .left), p .least, p .most)
 
 add-k : tie.Need-add-k Inv-loop μ-loop
 add-k c = search needs
@@ -48,7 +54,9 @@ loop-less : tie.Need-loop-less Inv-loop μ-loop
 loop-less c = search needs
 
 loop-again : tie.Need-loop-again Inv-loop μ-loop
-loop-again c = reached-next _ _ _ _ _ _ _ _ _ _ _ _ _ _ _ (c .before .before .before .before .before .before .before .before .before .before .before .before .before .before .before .pre) (c .before .before .before .before .before .before .before .before .before .before .before .before .before .loop .inv) (c .before .before .before .before .before .before .before .before .before .before .before .before .loop-test .taken) (c .before .before .before .before .before .before .before .before .before .before .before .line-at .ensures) (c .before .before .before .before .before .before .before .before .before .before .line-fault .ensures) _ _ _ _ _ _ _ _ (c .before .before .before .before .before .before .before .before .before .if1 .left) (c .take-line .ensures)
+loop-again c =
+    let e = c .before .before .before .before .before .before .before .before .before in
+    reached-next _ _ _ _ _ _ _ _ _ _ _ _ _ _ _ (e .before .before .before .before .before .before .pre) (e .before .before .before .before .loop .inv) (e .before .before .before .loop-test .taken) (e .before .before .line-at .ensures) (e .before .line-fault .ensures) _ _ _ _ _ _ _ _ (e .if1 .left) (c .take-line .ensures)
 
 returns-2 : tie.Need-returns-2 Inv-loop μ-loop
 returns-2 c = taken-in _ _ _ _ _ _ _ _ _ _ _ _ _ (c .before .before .before .pre) (c .loop-test .left) (c .before .loop .inv)

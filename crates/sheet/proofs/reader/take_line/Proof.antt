@@ -1,6 +1,8 @@
+-- By the letter: H comes first, where nothing is held yet, and keeps the columns empty; a gate, a rule or a wish is put behind those
+-- that are held; Z leaves all as it is.
 use mathlib.Core.Path.{refl, ap}
 use Rattle.scope.specs.Sheet.{Gate, mostLiterals}
-use Rattle.scope.specs.Reading.{make}
+use Rattle.scope.specs.Causes.{make}
 use Rattle.sheet.specs.laws.Numbers.{front-numbers}
 use Rattle.sheet.proofs.reader.Held.{head-held, gate-held, rule-held, wish-held}
 use borrow.Author.Needs.{needs}

@@ -1,3 +1,4 @@
+-- Fields that are literals and then zeros are those of their clause, filled up with zeros, so the code of field i is that of literal i.
 use Rattle.sheet.proofs.reader.Literals.{code-fits, code-is}
 use borrow.Author.Needs.{needs}
 use Rattle.sheet.proofs.reader.take_wish.Statement.{statement}

@@ -1,3 +1,4 @@
+-- A refusal holds no entry, so all its words are the zeros that fill up.
 use mathlib.Core.Path.{refl}
 use Rattle.sheet.specs.Tables.{tables, padded}
 use Rattle.sheet.proofs.tables.refused.Statement.{statement}

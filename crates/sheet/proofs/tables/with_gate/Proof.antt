@@ -1,3 +1,4 @@
+-- Only the count of gates moves, by the gate that is added.
 use Rattle.sheet.proofs.tables.Entries.{one-more}
 use borrow.Author.Needs.{needs}
 use Rattle.sheet.proofs.tables.with_gate.Statement.{statement}

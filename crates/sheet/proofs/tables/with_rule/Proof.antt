@@ -1,3 +1,4 @@
+-- Only the count of rules moves, by the rule that is added.
 use Rattle.sheet.proofs.tables.Entries.{one-more}
 use borrow.Author.Needs.{needs}
 use Rattle.sheet.proofs.tables.with_rule.Statement.{statement}

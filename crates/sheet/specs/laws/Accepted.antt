@@ -6,16 +6,16 @@ use lib.ListN.{length, take, replicate, length-map}
 use lib.Seq.{take-at}
 use Rattle.scope.specs.Sheet.{Sheet, mostGates, mostRules, mostWishes}
 use Rattle.scope.specs.Tables.{kindOf, leftOf, rightOf, literalAt, Holds}
-use Rattle.sheet.specs.Tables.{padded, pointOf, tables, filled, lent}
+use Rattle.sheet.specs.Tables.{padded, pointOf, tables, acceptedTables, asTables}
 
--- a column up to its count
+-- an array up to its count
 front : {A : Type 0} (n : ℕ) (f : A → ℕ) (l : List A) → take (length l) (padded n f l) ≡ map f l
 unfolding padded
 front n f l = take-at (map f l) (replicate (n - length l) 0) (length l) (length-map l f)
 
-pub filled-holds : (t : Sheet) → Holds (lent (filled t)) t
+pub accepted-holds : (t : Sheet) → Holds (asTables (acceptedTables t)) t
 unfolding tables
-filled-holds t = record {
+accepted-holds t = record {
   switches = refl;
   faults = refl;
   gates = refl;
