@@ -1,4 +1,4 @@
--- What lent columns and answers say: gates, wishes, and the sheets that they make. Assumes nothing.
+-- What lent arrays and answers say: gates, wishes, and the sheets that they make. Assumes nothing.
 use Prim.Native.Nat.{ℕ, _+_, _≤_}
 use Prim.Native.Char.{code}
 use mathlib.Core.Bool.{cond}
@@ -12,17 +12,17 @@ use Rattle.scope.specs.Tables.{literalFrom}
 use Rattle.circuit.specs.declared.rule.Missed.{Missed}
 use Rattle.circuit.specs.declared.rule.Missed.the-variants.{Nothing, At}
 
--- ---- three columns, a row for each index
+-- ---- three arrays, a row for each index
 
--- columns of different lengths end with the shortest
+-- arrays of different lengths end with the shortest
 unfoldable pub rows : {A : Type 0} → (ℕ → ℕ → ℕ → A) → (first second third : List ℕ) → List A
 rows f [] ys zs = []
 rows f (x ∷ xs) [] zs = []
 rows f (x ∷ xs) (y ∷ ys) [] = []
 rows f (x ∷ xs) (y ∷ ys) (z ∷ zs) = f x y z ∷ rows f xs ys zs
 
--- equal columns of at most n
-pub record Columns (n : ℕ) (first second third : List ℕ) : Type 0 where
+-- equal arrays of at most n
+pub record Arrays (n : ℕ) (first second third : List ℕ) : Type 0 where
   pub few : length first ≤ n
   pub seconds : length second ≡ length first
   pub thirds : length third ≡ length first
@@ -39,11 +39,11 @@ gatesOf = rows gateOf
 abbrev pub circuit : (a f : ℕ) (kind left right rules : List ℕ) → Sheet
 circuit a f kind left right rules = sheet a f (gatesOf kind left right) rules []
 
--- columns that a sheet may have for gates
+-- arrays that a sheet may have for gates
 pub record Gates (a f : ℕ) (kind left right : List ℕ) : Type 0 where
   pub switches : a ≤ mostSwitches
   pub faults : f ≤ mostFaults
-  pub columns : Columns mostGates kind left right
+  pub arrays : Arrays mostGates kind left right
   pub ordered : Ordered (a + f) (gatesOf kind left right)
 
 -- ---- wishes: the codes of three literals
@@ -62,10 +62,10 @@ wishesOf = rows clauseOf
 abbrev pub wishSheet : (a : ℕ) → List Clause → Sheet
 wishSheet a ws = sheet a 0 [] [] ws
 
--- columns that a sheet may have for wishes
+-- arrays that a sheet may have for wishes
 pub record Clauses (a : ℕ) (first second third : List ℕ) : Type 0 where
   pub switches : a ≤ mostSwitches
-  pub columns : Columns mostWishes first second third
+  pub arrays : Arrays mostWishes first second third
   pub wishes : All (Wish a) (wishesOf first second third)
 
 -- ---- answers

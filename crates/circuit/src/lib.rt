@@ -1,7 +1,7 @@
 // What a plan means on a planning sheet: the truth of its points under a fault pattern, the first
 // pattern that the plan does not pass, and the wishes that it breaks.
 //
-// Gates, rules and wishes are lent as slices, a column for each field (`specs/Lent.antt`). Every
+// Gates, rules and wishes are lent as slices, an array for each field (`specs/Lent.antt`). Every
 // promise is an equation with a definition of the crate `scope`; this crate rests on no other.
 pub mod point;
 pub mod rule;

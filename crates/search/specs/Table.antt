@@ -1,4 +1,4 @@
--- The table of plans and patterns that lent columns make, and what the answers of the search say. Assumes nothing.
+-- The table of plans and patterns that lent arrays make, and what the answers of the search say. Assumes nothing.
 use Prim.Native.Nat.{ℕ, _+_, _≤_}
 use mathlib.Core.Bool.{cond}
 use mathlib.Core.List.{List, []}
@@ -18,11 +18,11 @@ use Rattle.search.specs.declared.run.Run.{Run}
 abbrev pub table : Sheet → List Clause → Task
 table t ws = record { passes = passes t; cost = cost (wishSheet (t .switches) ws); plans = plans t; patterns = patterns t }
 
--- That of lent columns.
+-- That of lent arrays.
 abbrev pub tableOf : (a f : ℕ) (kind left right rules first second third : List ℕ) → Task
 tableOf a f kind left right rules first second third = table (circuit a f kind left right rules) (wishesOf first second third)
 
--- columns that a sheet may have
+-- arrays that a sheet may have
 pub record Lent (a f : ℕ) (kind left right rules first second third : List ℕ) : Type 0 where
   pub gates : Gates a f kind left right
   pub points : All (Among (a + f + length kind)) rules

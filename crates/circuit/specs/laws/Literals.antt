@@ -8,20 +8,20 @@ use lib.Dec.{eqb}
 use borrow.Author.Tests.{ne-eqb}
 use Rattle.scope.specs.Sheet.{Number, number, All, Among}
 use Rattle.scope.specs.Meaning.{any, literalTrue, keeps}
-use Rattle.scope.specs.laws.TypedSheets.{all-parts}
+use Rattle.scope.specs.laws.Alls.{all-parts}
 use Rattle.circuit.specs.Lent.{literalsOf, clauseOf}
 
 -- ---- lists joined
 
-any-append : {A : Type 0} (f : A → Bool) (s t : List A) → any f (s ++ t) ≡ (any f s || any f t)
+any-append : {A : Type 0} (f : A → Bool) (s t : List A) → any (s ++ t) f ≡ (any s f || any t f)
 any-append f [] t = refl
-any-append f (a ∷ s) t = rw (any-append f s t) (sym (or-assoc (f a) (any f s) (any f t)))
+any-append f (a ∷ s) t = rw (any-append f s t) (sym (or-assoc (f a) (any s f) (any t f)))
 
 -- ---- a clause, by its literals
 module _ (x y z : ℕ) where
   pub keeps-clause : (v : ℕ → Bool) → keeps v (clauseOf x y z) ≡ (keeps v (literalsOf x) || (keeps v (literalsOf y) || keeps v (literalsOf z)))
   unfolding keeps clauseOf
-  keeps-clause v = any-append (literalTrue v) (literalsOf x) (literalsOf y ++ literalsOf z) ∙ ap (λ b. any (literalTrue v) (literalsOf x) || b) (any-append (literalTrue v) (literalsOf y) (literalsOf z))
+  keeps-clause v = any-append (literalTrue v) (literalsOf x) (literalsOf y ++ literalsOf z) ∙ ap (λ b. any (literalsOf x) (literalTrue v) || b) (any-append (literalTrue v) (literalsOf y) (literalsOf z))
 
   pub clause-parts : (P : Number → Type 0) → All P (clauseOf x y z) → All P (literalsOf x) × All P (literalsOf y) × All P (literalsOf z)
   unfolding clauseOf

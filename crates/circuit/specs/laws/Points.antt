@@ -1,4 +1,4 @@
--- The truth of the points of lent columns, as the code goes through them. Assumes nothing.
+-- The truth of the points of lent arrays, as the code goes through them. Assumes nothing.
 use Prim.Native.Nat.{ℕ, suc, _+_, _-_, _≤_, _<_}
 use Prim.Native.Char.{code}
 use native.Mathlib.Omega.{arith}
@@ -13,7 +13,7 @@ use Rattle.scope.specs.Meaning.{bits, nth, gateTruth, switchOn, truth}
 use Rattle.scope.specs.laws.Points.{truth-switch, truth-fault, truth-gate}
 use Rattle.circuit.specs.Lent.{gateOf, gatesOf, circuit, Gates}
 use Rattle.circuit.specs.Steps.{decidesOf}
-use Rattle.circuit.specs.laws.Columns.{length-rows, row-at, names-at, gate-by-kind, names-left, names-right}
+use Rattle.circuit.specs.laws.Arrays.{length-rows, row-at, names-at, gate-by-kind, names-left, names-right}
 
 -- ---- a gate of kind k, by the truth x of its first point and y of its second: an and with a false first point is false, and an or with a
 -- true one true; otherwise both are what the second point is
@@ -51,10 +51,10 @@ module _ {a f : ℕ} {kind left right : List ℕ} (h : Gates a f kind left right
   -- ---- a gate names points before its own
   module _ {p i : ℕ} (g : IsGate a f (length kind) p i) where
     listed : i < length (gatesOf kind left right)
-    listed = omega (arith, length-rows gateOf kind left right (h .columns .seconds) (h .columns .thirds))
+    listed = omega (arith, length-rows gateOf kind left right (h .arrays .seconds) (h .arrays .thirds))
 
     as-gate : getD (gatesOf kind left right) i (Gate.not 0) ≡ gate i
-    as-gate = row-at gateOf kind left right (Gate.not 0) i (h .columns .seconds) (h .columns .thirds) (omega arith)
+    as-gate = row-at gateOf kind left right (Gate.not 0) i (h .arrays .seconds) (h .arrays .thirds) (omega arith)
 
     names : Names (p - 1) (gate i)
     names =

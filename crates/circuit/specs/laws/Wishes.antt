@@ -1,4 +1,4 @@
--- Wishes in columns, one by one: what those from wish i on cost. Assumes nothing.
+-- Wishes in arrays, one by one: what those from wish i on cost. Assumes nothing.
 use Prim.Native.Nat.{ℕ, suc, _+_, _≤_, _<_}
 use native.Mathlib.Omega.{arith}
 use mathlib.Core.Bool.{true, false, cond}
@@ -8,11 +8,11 @@ use lib.ListN.{length, getD, drop, drop-of-length-le}
 use Rattle.scope.specs.Sheet.{Clause, All, Wish}
 use Rattle.scope.specs.Meaning.{kept, cost}
 use Rattle.scope.specs.laws.Wishes.{cost-most, cost-one, cost-together}
-use Rattle.circuit.specs.Lent.{clauseOf, wishesOf, wishSheet, Columns}
-use Rattle.scope.specs.laws.Steps.{all-at}
-use Rattle.circuit.specs.laws.Columns.{length-rows, row-at, row-drop}
+use Rattle.circuit.specs.Lent.{clauseOf, wishesOf, wishSheet, Arrays}
+use Rattle.scope.specs.laws.Alls.{all-at}
+use Rattle.circuit.specs.laws.Arrays.{length-rows, row-at, row-drop}
 
-module _ {n : ℕ} {first second third : List ℕ} (h : Columns n first second third) where
+module _ {n : ℕ} {first second third : List ℕ} (h : Arrays n first second third) where
   abbrev ws : List Clause
   ws = wishesOf first second third
 

@@ -8,7 +8,7 @@ use borrow.Author.Needs.{needs}
 use Rattle.scope.specs.Meaning.{all, truth, passes}
 use Rattle.scope.specs.Sheet.{Among}
 use Rattle.circuit.specs.Lent.{circuit}
-use Rattle.scope.specs.laws.Steps.{all-at}
+use Rattle.scope.specs.laws.Alls.{all-at}
 use Rattle.circuit.specs.laws.Patterns.{all-step, all-stop, all-end}
 use Rattle.circuit.proofs.rule.passes.Statement.{statement}
 use Rattle.circuit.proofs.rule.passes.Tie as tie
@@ -16,7 +16,7 @@ use Rattle.circuit.proofs.rule.passes.Tie as tie
 abbrev Inv-loop : tie.InvT-loop
 Inv-loop kind left right rules a f plan pattern i₀ i =
     let t = circuit a f kind left right rules in
-    all (truth t (plan .0) (pattern .0)) (drop i rules) ≡ passes t (plan .0) (pattern .0)
+    all (drop i rules) (truth t (plan .0) (pattern .0)) ≡ passes t (plan .0) (pattern .0)
 
 abbrev μ-loop : tie.MeasureT-loop
 μ-loop kind left right rules a f plan pattern i₀ i = length rules - i

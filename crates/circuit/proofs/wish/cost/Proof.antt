@@ -44,7 +44,7 @@ shared-slice-read-kept-3 c = search needs
 kept-requires : tie.Need-kept-requires Inv-loop μ-loop
 kept-requires c κs =
     let s = c .before .before .before .before .before .before .before .before in
-    (s .pre .switches, wish-at (s .pre .columns) _ _ (c .before .before .before .loop-test .taken) (s .pre .wishes))
+    (s .pre .switches, wish-at (s .pre .arrays) _ _ (c .before .before .before .loop-test .taken) (s .pre .wishes))
 
 add-count : tie.Need-add-count Inv-loop μ-loop
 add-count c = search needs
@@ -64,14 +64,14 @@ loop-again c =
     let l = c .before .before .before .before .before .loop-test .taken in
     let e = sym (c .before .kept .ensures) in
     ⊎-elim
-    (λ w. (omega arith, omega arith, omega (arith, cost-more (s .pre .columns) a p i l (e ∙ not-true _ (w .0 .taken)))))
-    (λ w. (omega arith, omega arith, omega (arith, cost-kept (s .pre .columns) a p i l (e ∙ not-false _ (w .0 .left)))))
+    (λ w. (omega arith, omega arith, omega (arith, cost-more (s .pre .arrays) a p i l (e ∙ not-true _ (w .0 .taken)))))
+    (λ w. (omega arith, omega arith, omega (arith, cost-kept (s .pre .arrays) a p i l (e ∙ not-false _ (w .0 .left)))))
     (c .if1 .came)
 
 returns : tie.Need-returns Inv-loop μ-loop
 returns c =
     let s = c .before .before .before .before .before in
-    omega (arith, cost-end (s .pre .columns) (s .args .a) (s .args .plan .0) (c .before .loop .i) (c .loop-test .left))
+    omega (arith, cost-end (s .pre .arrays) (s .args .a) (s .args .plan .0) (c .before .loop .i) (c .loop-test .left))
 
 pub cost-spec : {M : Type 1} → statement M
 cost-spec =

@@ -7,7 +7,7 @@ use lib.ListN.{length, getD}
 use borrow.Author.Needs.{needs}
 use Rattle.scope.specs.Program.{row, wishRow}
 use Rattle.circuit.specs.Lent.{clauseOf, wishesOf, wishSheet}
-use Rattle.circuit.specs.laws.Columns.{length-rows, row-at}
+use Rattle.circuit.specs.laws.Arrays.{length-rows, row-at}
 use Rattle.circuit.specs.laws.Wishes.{wish-at}
 use Rattle.listing.specs.Rows.{row-size, Put, put-none, put-one-more}
 use Rattle.listing.proofs.rows.put_wishes.Statement.{statement}
@@ -43,7 +43,7 @@ shared-slice-read-kept-3 c = search needs
 kept-requires : tie.Need-kept-requires Inv-loop μ-loop
 kept-requires c κs =
     let q = c .before .before .before .before .before .before .before .before .before .pre .0 in
-    (q .switches, wish-at (q .columns) _ _ (c .before .before .before .loop-test .taken) (q .wishes))
+    (q .switches, wish-at (q .arrays) _ _ (c .before .before .before .loop-test .taken) (q .wishes))
 
 flag-requires : tie.Need-flag-requires Inv-loop μ-loop
 flag-requires c κs = search needs
@@ -86,9 +86,9 @@ loop-again c =
       omega (arith, h),
       n ∙ s .loop .inv .1,
       put-one-more (wishRow (wishSheet (a .a) []) (a .plan .0)) (a .out .now) (a .at) l i (s .loop .out) (o .last .0) [] v (row "W" (m .result) (f .result) 0) (s .loop .inv .2)
-          (rw (length-rows clauseOf (a .first .now) (a .second .now) (a .third .now) (q .columns .seconds) (q .columns .thirds)) h) (row-at clauseOf (a .first .now) (a .second .now) (a .third .now) [] i (q .columns .seconds) (q .columns .thirds) h) (omega (arith, h, s .before .before .before .before .before .pre .1))
+          (rw (length-rows clauseOf (a .first .now) (a .second .now) (a .third .now) (q .arrays .seconds) (q .arrays .thirds)) h) (row-at clauseOf (a .first .now) (a .second .now) (a .third .now) [] i (q .arrays .seconds) (q .arrays .thirds) h) (omega (arith, h, s .before .before .before .before .before .pre .1))
           (ap₂ (λ x y. row "W" x y 0) (m .ensures) (rw (k .ensures) at (f .ensures .0)))
-          (row-size "W" (m .result) (f .result) 0 (omega (arith, m .ensures, h, q .columns .few)) (f .ensures .1) (omega arith)) (o .ensures),
+          (row-size "W" (m .result) (f .result) 0 (omega (arith, m .ensures, h, q .arrays .few)) (f .ensures .1) (omega arith)) (o .ensures),
     )
 
 same-length : tie.Need-same-length Inv-loop μ-loop

@@ -8,7 +8,7 @@ use Rattle.scope.specs.Meaning.{bits}
 use Rattle.scope.specs.Program.{each, switchRow, wishRow}
 use Rattle.scope.specs.laws.Points.{length-bits}
 use Rattle.circuit.specs.Lent.{clauseOf, wishesOf, wishSheet}
-use Rattle.circuit.specs.laws.Columns.{length-rows}
+use Rattle.circuit.specs.laws.Arrays.{length-rows}
 use Rattle.listing.specs.Rows.{wrote-none, put-all, wrote-more}
 use borrow.Author.Needs.{needs}
 use Rattle.listing.proofs.whole.put_plan.Statement.{statement}
@@ -45,10 +45,10 @@ returns c =
     let q = s .pre .0 in
     let o = c .before .before .before .before .before .before .before .put-switches in
     let w = c .before .before .put-wishes in
-    let n : length (a .first .now) ≤ 64 = q .columns .few in
+    let n : length (a .first .now) ≤ 64 = q .arrays .few in
     let m : c .before .before .before .before .wide .result ≡ a .a = c .before .before .before .before .wide .ensures in
     let ws = wishesOf (a .first .now) (a .second .now) (a .third .now) in
-    let k : length (a .first .now) ≡ length ws = sym (length-rows clauseOf (a .first .now) (a .second .now) (a .third .now) (q .columns .seconds) (q .columns .thirds)) in
+    let k : length (a .first .now) ≡ length ws = sym (length-rows clauseOf (a .first .now) (a .second .now) (a .third .now) (q .arrays .seconds) (q .arrays .thirds)) in
     let at = a .at + 17 * c .before .before .before .before .wide .result in
     let end = at + 17 * length (a .first .now) in
     rw (c .before .before .before .before .before .before .before .before .before .if1 .taken) (

@@ -1,7 +1,10 @@
+-- The invariant: the best so far is the best of the plans below i, with its cost. The next plan keeps it or takes over as the
+-- definition of the best has it, and at 2 ^ a all plans have been looked at.
 use Prim.Native.Nat.{_≤_, _-_}
 use native.Mathlib.Omega.{arith}
 use mathlib.Core.Path.{_≡_, _∙_}
 use borrow.Author.Needs.{needs}
+use Rattle.scope.specs.Rule.{Task}
 use Rattle.search.specs.Table.{tableOf, Priced}
 use Rattle.search.specs.laws.Steps.{Picks, picks-none, picks-next, picks-best}
 use Rattle.search.proofs.best.best_plan.Statement.{statement}
@@ -13,17 +16,23 @@ Inv-loop kind left right rules first second third a f list last end best₀ i₀
 abbrev μ-loop : tie.MeasureT-loop
 μ-loop kind left right rules first second third a f list last end best₀ i₀ best i = end - i
 
+-- the call, once the number of plans is known; and the table of the call's columns
+abbrev call : tie.After-power Inv-loop μ-loop → tie.Start Inv-loop μ-loop
+call p = p .before .before .before .before .before .before .before .before .before
+
+abbrev taskOf : tie.Start Inv-loop μ-loop → Task
+taskOf s = let a = s .args in tableOf (a .a) (a .f) (a .kind .now) (a .left .now) (a .right .now) (a .rules .now) (a .first .now) (a .second .now) (a .third .now)
+
 power-requires : tie.Need-power-requires Inv-loop μ-loop
 power-requires c κs = omega (arith, c .before .before .before .before .before .before .before .before .pre .0 .gates .switches)
 
 loop-holds : tie.Need-loop-holds Inv-loop μ-loop
-loop-holds c =
-    let a = c .before .before .before .before .before .before .before .before .before .args in
-    let t = tableOf (a .a) (a .f) (a .kind .now) (a .left .now) (a .right .now) (a .rules .now) (a .first .now) (a .second .now) (a .third .now) in
-    (search needs, picks-none t (a .list .now), tt)
+loop-holds c = let s = call c in (search needs, picks-none (taskOf s) (s .args .list .now), tt)
 
 with-plan-requires : tie.Need-with-plan-requires Inv-loop μ-loop
-with-plan-requires c κs = (c .before .before .before .before .before .before .before .before .before .before .before .pre .0, c .before .before .before .before .before .before .before .before .before .before .before .pre .1, c .before .loop .inv .2, rw (c .before .before .power .ensures) at (c .loop-test .taken))
+with-plan-requires c κs =
+    let s = call (c .before .before) in
+    (s .pre .0, s .pre .1, c .before .loop .inv .2, rw (c .before .before .power .ensures) at (c .loop-test .taken))
 
 add-i : tie.Need-add-i Inv-loop μ-loop
 add-i c = search needs
@@ -33,18 +42,17 @@ loop-less c = search needs
 
 loop-again : tie.Need-loop-again Inv-loop μ-loop
 loop-again c =
-    let a = c .before .before .before .before .before .before .before .before .before .before .before .before .args in
-    let t = tableOf (a .a) (a .f) (a .kind .now) (a .left .now) (a .right .now) (a .rules .now) (a .first .now) (a .second .now) (a .third .now) in
-    let s = c .before .before .loop in
-    (search needs, picks-next t (a .list .now) (s .i) (s .best) (c .with-plan .result) (s .inv .1) (c .with-plan .ensures .0), c .with-plan .ensures .1)
+    let s = call (c .before .before .before) in
+    let l = c .before .before .loop in
+    (search needs, picks-next (taskOf s) (s .args .list .now) (l .i) (l .best) (c .with-plan .result) (l .inv .1) (c .with-plan .ensures .0), c .with-plan .ensures .1)
 
 returns : tie.Need-returns Inv-loop μ-loop
 returns c =
-    let a = c .before .before .before .before .before .before .before .before .before .before .before .args in
-    let t = tableOf (a .a) (a .f) (a .kind .now) (a .left .now) (a .right .now) (a .rules .now) (a .first .now) (a .second .now) (a .third .now) in
-    let s = c .before .loop in
-    let e : s .i ≡ c .before .before .power .result = omega arith in
-    (picks-best t (a .list .now) (s .i) (s .best) (e ∙ c .before .before .power .ensures) (s .inv .1), s .inv .2)
+    let p = c .before .before in
+    let s = call p in
+    let l = c .before .loop in
+    let e : l .i ≡ p .power .result = omega arith in
+    (picks-best (taskOf s) (s .args .list .now) (l .i) (l .best) (e ∙ p .power .ensures) (l .inv .1), l .inv .2)
 
 pub best-plan-spec : {M : Type 1} → statement M
 best-plan-spec =

@@ -1,3 +1,5 @@
+-- The invariant: the plan passes every listed pattern before i. One that it does not pass settles that it does not pass the list, and
+-- at the end it passes each.
 use borrow.Author.Tests.{not-true, not-false}
 use native.Mathlib.Omega.{arith}
 use Prim.Native.Nat.{ℕ, _≤_, _<_, _-_}
@@ -48,8 +50,6 @@ loop-less c = search needs
 loop-again : tie.Need-loop-again Inv-loop μ-loop
 loop-again c =
     let s = c .before .before .before .before in
-    let a = s .before .before .before .before .before .before .args in
-    let t = circuit (a .a) (a .f) (a .kind .now) (a .left .now) (a .right .now) (a .rules .now) in
     (search needs, below-more _ _ (s .loop .inv .1) (sym (c .before .passes .ensures) ∙ not-false _ (c .if1 .left)))
 
 returns-2 : tie.Need-returns-2 Inv-loop μ-loop

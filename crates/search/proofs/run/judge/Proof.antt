@@ -1,3 +1,5 @@
+-- Without a candidate the round ends. A candidate that misses no pattern ends it too; else the first that it misses is listed next,
+-- and the candidate and every better plan fail the list with it.
 use Rattle.circuit.specs.Lent.{circuit}
 use Rattle.search.specs.laws.Steps.{no-candidate, candidate-sound, candidate-misses}
 use borrow.Author.Needs.{needs}

@@ -1,3 +1,4 @@
+-- The best plan over what is listed is the candidate, and what follows from it is what the round comes to.
 use Rattle.circuit.specs.Lent.{wishesOf}
 use borrow.Author.Needs.{needs}
 use Rattle.search.proofs.run.round.Statement.{statement}

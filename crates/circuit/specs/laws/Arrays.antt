@@ -1,4 +1,4 @@
--- Columns, row by row. Assumes nothing.
+-- Arrays, row by row. Assumes nothing.
 use Prim.Native.Nat.{ℕ, zero, suc, _+_, _<_}
 use Prim.Native.Char.{code}
 use native.Mathlib.Nat.{add-zero}
