@@ -10,16 +10,16 @@ use lib.ListN.{length}
 use Rattle.scope.specs.Sheet.{Gate, mostGates}
 use Rattle.scope.specs.Typed.{Formula, mostText, mostNumber, mostNested, ors, ands, factor, operators, point, gatesOf, known}
 use Rattle.scope.specs.Parsing.{Around, first, head, nested, operand, after, operandDone, joinedOr, outside}
-use Rattle.sheet.specs.Steps.{GateColumns}
+use Rattle.sheet.specs.Steps.{GateArrays}
 use Rattle.scope.specs.Tables.{kindOf, leftOf, rightOf}
 use Rattle.text.specs.Look.{look, skip}
 use Rattle.text.specs.Words.{Stuck, Came}
 use Rattle.text.specs.declared.formula.Parsed.{Parsed}
 
--- the columns hold these gates, n of them, as long as there is room
-pub record Holds (gs : List Gate) (n : ℕ) (kind left right : List ℕ) : Type 0 where
+-- the arrays hold these gates, n of them, as long as there is room
+pub record GatesHold (gs : List Gate) (n : ℕ) (kind left right : List ℕ) : Type 0 where
   pub count : n ≡ length gs
-  pub columns : n ≤ mostGates → GateColumns gs kind left right
+  pub arrays : n ≤ mostGates → GateArrays gs kind left right
 
 -- with a switches, f faults and g gates before it, r is x read from a place on; `ok` is whether all numbers before it are known
 pub record Built (a f g : ℕ) (ok : Bool) (at : ℕ) (x : Formula) (r : Parsed) : Type 0 where
@@ -30,7 +30,7 @@ pub record Built (a f g : ℕ) (ok : Bool) (at : ℕ) (x : Formula) (r : Parsed)
 
 -- and its gates come after those before it
 abbrev pub Filled : (a f g : ℕ) → Formula → (h : ℕ) → (kind left right kinds lefts rights : List ℕ) → Type 0
-Filled a f g x h kind left right kinds lefts rights = (gs : List Gate) → Holds gs g kind left right → Holds (gs ++ gatesOf a f g x) h kinds lefts rights
+Filled a f g x h kind left right kinds lefts rights = (gs : List Gate) → GatesHold gs g kind left right → GatesHold (gs ++ gatesOf a f g x) h kinds lefts rights
 
 -- ---- the walk over a formula at each level
 
@@ -60,7 +60,7 @@ AndsStuck s depth at n = (k : Around ands) → nested k + depth ≡ mostNested �
 abbrev pub OrsStuck : List ℕ → (depth at n : ℕ) → Type 0
 OrsStuck s depth at n = (k : Around ors) → nested k + depth ≡ mostNested → Stuck s (operand (head (first k))) at n
 
--- ---- what was read of a level, with the columns before and after
+-- ---- what was read of a level, with the arrays before and after
 
 pub record Good (To : Formula → ℕ → Type 0) (a f g : ℕ) (ok : Bool) (at : ℕ) (r : Parsed) (kind left right kinds lefts rights : List ℕ) : Type 0 where
   pub formula : Formula
@@ -136,7 +136,7 @@ gated a f p = record { bad = false; at = p .at; point = a + f + (p .gates + 1); 
 pub record Gated (a f letter l m : ℕ) (p r : Parsed) (kind left right kinds lefts rights : List ℕ) : Type 0 where
   pub stays : p .bad ≡ true → r ≡ p
   pub adds : p .bad ≡ false → r ≡ gated a f p
-  pub holds : p .bad ≡ false → (gs : List Gate) (g : Gate) → Holds gs (p .gates) kind left right → letter ≡ kindOf g → l ≡ leftOf g → m ≡ rightOf g → Holds (gs ++ g ∷ []) (p .gates + 1) kinds lefts rights
+  pub holds : p .bad ≡ false → (gs : List Gate) (g : Gate) → GatesHold gs (p .gates) kind left right → letter ≡ kindOf g → l ≡ leftOf g → m ≡ rightOf g → GatesHold (gs ++ g ∷ []) (p .gates + 1) kinds lefts rights
 
 -- after a `|`, unless it is the first
 pub record OrGated (first : Bool) (a f l : ℕ) (q r : Parsed) (kind left right kinds lefts rights : List ℕ) : Type 0 where

@@ -8,20 +8,19 @@ use mathlib.Core.Path.{_≡_}
 use lib.Dec.{eqb, leb, ltb}
 use lib.ListN.{length}
 use Rattle.scope.specs.Sheet.{Number, Clause, All, mostGates, mostRules, mostWishes, mostLiterals}
-use Rattle.scope.specs.Reading.{Row}
-use Rattle.scope.specs.Causes.{Met}
+use Rattle.scope.specs.Causes.{Test, Met}
 use Rattle.scope.specs.Meaning.{all}
-use Rattle.scope.specs.Typed.{Formula, Typed, typed, mostText, mostNumber, allGates, allPoints, lineRows}
+use Rattle.scope.specs.Typed.{Formula, Typed, typed, mostText, mostNumber, allGates, allPoints, lineTests}
 use Rattle.scope.specs.Texts.{FirstLine}
 use Rattle.scope.specs.Text.{bytes}
 use Rattle.scope.specs.Parsing.{State, word, digits, literal, start, ruleLine, wishLine, wish, ended}
-use Rattle.sheet.specs.Steps.{WishColumns, rowOf}
+use Rattle.sheet.specs.Steps.{WishArrays, testOf}
 use Rattle.sheet.specs.Steps as sheet
 use Rattle.scope.specs.Tables.{literalCode, literalAt}
 use Rattle.sheet.specs.Tables.{padded, pointOf}
 use Rattle.text.specs.Look.{look}
 use Rattle.text.specs.Words.{Stuck, Came}
-use Rattle.text.specs.Formulas.{Holds}
+use Rattle.text.specs.Formulas.{GatesHold}
 use Rattle.text.specs.declared.formula.Parsed.{Parsed}
 use Rattle.text.specs.declared.formula.Points.{Points}
 use Rattle.text.specs.declared.head.Head.{Head}
@@ -31,13 +30,13 @@ use Rattle.text.specs.declared.wish.Wish.{Wish}
 
 -- ---- the first fault
 
-pub record Faulted (rss : List (List Row)) (f : Fault) : Type 0 where
+pub record Faulted (rss : List (List Test)) (f : Fault) : Type 0 where
   pub met : f .number ≡ 0 → All Met rss
   pub first : f .number ≢ 0 → FirstLine (f .number) (f .line) rss
 
 -- with one more line
 abbrev pub FirstOf : Fault → (number line : ℕ) → Fault → Type 0
-FirstOf f number line r = (rss : List (List Row)) (rs : List Row) → Faulted rss f → sheet.Fault rs number → line ≡ length rss + 1 → Faulted (rss ++ rs ∷ []) r
+FirstOf f number line r = (rss : List (List Test)) (rs : List Test) → Faulted rss f → sheet.Fault rs number → line ≡ length rss + 1 → Faulted (rss ++ rs ∷ []) r
 
 -- ---- the first two lines
 
@@ -53,7 +52,7 @@ pub record HeadLines (h : Head) (r : Lines) : Type 0 where
   pub gates : r .gates ≡ 0
   pub rules : r .rules ≡ 0
   pub wishes : r .wishes ≡ 0
-  pub fault : Faulted (lineRows (typed (h .switches) (h .faults) [] [])) (r .fault)
+  pub fault : Faulted (lineTests (typed (h .switches) (h .faults) [] [])) (r .fault)
 
 pub record HeadRead (s : List ℕ) (r : Head) : Type 0 where
   pub good : r .bad ≡ false → HeadTold s r
@@ -81,15 +80,15 @@ NoMore s l b = l .bad ≡ false → look s (l .at) ≢ b
 unfoldable pub linesLeft : List ℕ → Lines → ℕ
 linesLeft s l = cond (l .bad) 0 (suc (length s - l .at))
 
--- ---- columns that hold these, n of them, as long as there is room
+-- ---- arrays that hold these, n of them, as long as there is room
 
 pub record RulesHold (ps : List ℕ) (n : ℕ) (rule : List ℕ) : Type 0 where
   pub count : n ≡ length ps
-  pub column : n ≤ mostRules → rule ≡ padded mostRules pointOf ps
+  pub array : n ≤ mostRules → rule ≡ padded mostRules pointOf ps
 
 pub record WishesHold (ws : List Clause) (n : ℕ) (first second third : List ℕ) : Type 0 where
   pub count : n ≡ length ws
-  pub columns : n ≤ mostWishes → WishColumns ws first second third
+  pub arrays : n ≤ mostWishes → WishArrays ws first second third
 
 -- and then one wish more, with these literals
 abbrev pub WishKept : (n x y z : ℕ) (first second third firsts seconds thirds : List ℕ) → Type 0
@@ -111,9 +110,9 @@ pub record RulesTold (s : List ℕ) (c : Points) (l : Lines) (kind left right ru
   pub rules : List Formula
   pub came : Came s start 0 (ruleLine (typed (c .switches) (c .faults) rules [])) (l .at)
   pub wishes : l .wishes ≡ 0
-  pub gates : Holds (allGates (c .switches) (c .faults) 0 rules) (l .gates) kind left right
+  pub gates : GatesHold (allGates (c .switches) (c .faults) 0 rules) (l .gates) kind left right
   pub points : RulesHold (allPoints (c .switches) (c .faults) 0 rules) (l .rules) rule
-  pub fault : Faulted (lineRows (typed (c .switches) (c .faults) rules [])) (l .fault)
+  pub fault : Faulted (lineTests (typed (c .switches) (c .faults) rules [])) (l .fault)
 
 pub record RulesRead (s : List ℕ) (c : Points) (l : Lines) (kind left right rule : List ℕ) : Type 0 where
   pub good : l .bad ≡ false → RulesTold s c l kind left right rule
@@ -121,7 +120,7 @@ pub record RulesRead (s : List ℕ) (c : Points) (l : Lines) (kind left right ru
 
 -- the number of a rule's first fault
 abbrev pub ruleFault : (gates n : ℕ) → Bool → ℕ
-ruleFault gates n known = rowOf 5 (leb gates mostGates && ltb n mostRules) (rowOf 6 known 0)
+ruleFault gates n known = testOf 5 (leb gates mostGates && ltb n mostRules) (testOf 6 known 0)
 
 pub record WithRule (l : Lines) (p : Parsed) (r : Lines) : Type 0 where
   pub good : r .bad ≡ false
@@ -142,7 +141,7 @@ pub record Literals (a : ℕ) (w : Wish) (xs : Clause) : Type 0 where
   pub first : w .first ≡ literalAt 0 xs
   pub second : w .second ≡ literalAt 1 xs
   pub third : w .third ≡ literalAt 2 xs
-  pub known : w .known ≡ all (λ x. leb (x .size) a) xs
+  pub known : w .known ≡ all xs (λ x. leb (x .size) a)
 
 pub record WithLiteral (w : Wish) (n code : ℕ) (known : Bool) (r : Wish) : Type 0 where
   pub good : r .bad ≡ false
@@ -182,8 +181,8 @@ pub record WishesTold (s : List ℕ) (c : Points) (rules : List Formula) (l : Li
   pub wishes : List Clause
   pub came : Came s start 0 (wishLine (typed (c .switches) (c .faults) rules wishes)) (l .at)
   pub count : l .rules ≡ length rules
-  pub columns : WishesHold wishes (l .wishes) first second third
-  pub fault : Faulted (lineRows (typed (c .switches) (c .faults) rules wishes)) (l .fault)
+  pub arrays : WishesHold wishes (l .wishes) first second third
+  pub fault : Faulted (lineTests (typed (c .switches) (c .faults) rules wishes)) (l .fault)
 
 pub record WishesRead (s : List ℕ) (c : Points) (rules : List Formula) (l : Lines) (first second third : List ℕ) : Type 0 where
   pub good : l .bad ≡ false → WishesTold s c rules l first second third
@@ -191,7 +190,7 @@ pub record WishesRead (s : List ℕ) (c : Points) (rules : List Formula) (l : Li
 
 -- the number of a wish's first fault
 abbrev pub wishFault : ℕ → Bool → ℕ
-wishFault n known = rowOf 5 (ltb n mostWishes) (rowOf 6 known 0)
+wishFault n known = testOf 5 (ltb n mostWishes) (testOf 6 known 0)
 
 pub record WithWish (l : Lines) (w : Wish) (r : Lines) : Type 0 where
   pub good : r .bad ≡ false

@@ -1,4 +1,4 @@
-// A formula: factors joined by `&`, these joined by `|`, both from the left. Each operator's gate goes into the lent columns when its
+// A formula: factors joined by `&`, these joined by `|`, both from the left. Each operator's gate goes into the lent arrays when its
 // operands are complete, as long as there is room; all are counted.
 ghost use mathlib.Core.Logic.{_≢_};
 ghost use mathlib.Core.Path.{_≡_};

@@ -21,7 +21,7 @@ use sheet::causes::FIELDS;
 use sheet::causes::LIMIT;
 use sheet::causes::MOST_GATES as FULL_GATES;
 use sheet::causes::MOST_RULES as FULL_RULES;
-use sheet::causes::row;
+use sheet::causes::test;
 use sheet::tables;
 use sheet::tables::Counts;
 use sheet::tables::MOST_GATES;
@@ -32,7 +32,7 @@ const RULE: u32 = b'r' as u32;
 // brackets and nots together
 const MOST_NESTED: u32 = 32;
 
-// Puts rule n into its column, if there is room.
+// Puts rule n into its array, if there is room.
 fn keep_rule(rule: &mut [u32; MOST_RULES], n: u32, point: u32)
     ensures { λ r. ⌜ ((ps : List ℕ) → RulesHold ps n (now (rule .entry)) → RulesHold (ps ++ point ∷ []) (n + 1) (now (rule .exit))) ⌝ }
 {
@@ -56,7 +56,7 @@ fn with_rule(l: Lines, p: Parsed) -> Lines
 {
     let n = l.rules;
     let room = both(p.gates <= FULL_GATES, n < FULL_RULES);
-    let fault = row(LIMIT, room, row(FIELDS, p.known, 0));
+    let fault = test(LIMIT, room, test(FIELDS, p.known, 0));
     let earlier = l.fault;
     Lines {
         bad: false,

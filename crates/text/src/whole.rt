@@ -4,7 +4,9 @@ ghost use Prim.Native.Nat.{_+_, _≤_};
 ghost use lib.ListN.{length};
 ghost use Rattle.scope.specs.Typed.{mostText};
 ghost use Rattle.scope.specs.Parsing.{readText};
-ghost use Rattle.sheet.specs.Tables.{outcome, refusal};
+ghost use Rattle.scope.specs.Texts.{TextRead};
+ghost use Rattle.scope.specs.Source.{Gives};
+ghost use Rattle.sheet.specs.Tables.{outcome, refusedTables};
 ghost use Rattle.text.specs.Lines.{HeadLines};
 use crate::formula::Points;
 use crate::head::Head;
@@ -18,7 +20,7 @@ use sheet::Tables;
 use sheet::causes::MOST_FAULTS;
 use sheet::causes::MOST_SWITCHES;
 use sheet::causes::RANGE;
-use sheet::causes::row;
+use sheet::causes::test;
 use sheet::tables::MOST_GATES;
 use sheet::tables::MOST_RULES;
 use sheet::tables::MOST_WISHES;
@@ -32,7 +34,7 @@ const ILLEGAL: u32 = 12;
 // No legal text goes on at a place; places are told from 1.
 fn illegal(at: usize) -> Tables
     requires { ⌜ at ≤ mostText ⌝ }
-    ensures { λ r. ⌜ r ≡ refusal 12 (at + 1) 0 ⌝ }
+    ensures { λ r. ⌜ r ≡ refusedTables 12 (at + 1) 0 ⌝ }
 {
     refused(ILLEGAL, at + 1, 0)
 }
@@ -42,18 +44,18 @@ fn head_lines(h: Head) -> Lines
     ensures { λ r. ⌜ HeadLines h r ⌝ }
 {
     let none = Fault { number: 0, line: 0 };
-    let first = first_of(none, row(RANGE, h.switches <= MOST_SWITCHES, 0), 1);
+    let first = first_of(none, test(RANGE, h.switches <= MOST_SWITCHES, 0), 1);
     Lines {
         bad: false,
         at: h.at,
         gates: 0,
         rules: 0,
         wishes: 0,
-        fault: first_of(first, row(RANGE, h.faults <= MOST_FAULTS, 0), 2),
+        fault: first_of(first, test(RANGE, h.faults <= MOST_FAULTS, 0), 2),
     }
 }
 
-// A text that is not too long. The columns stand here and are lent, so that no line copies them.
+// A text that is not too long. The arrays stand here and are lent, so that no line copies them.
 fn read_lines(s: &[u8]) -> Tables
     requires { ⌜ length (now s) ≤ mostText ⌝ }
     ensures { λ r. ⌜ r ≡ outcome (readText (now (s .entry))) ⌝ }
@@ -117,7 +119,7 @@ fn read_lines(s: &[u8]) -> Tables
 
 // The sheet that a text stands for, or the first cause to turn it down.
 pub fn read(s: &[u8]) -> Tables
-    ensures { λ r. ⌜ r ≡ outcome (readText (now (s .entry))) ⌝ }
+    ensures { λ r. ⌜ Gives (TextRead (now (s .entry))) outcome r ⌝ }
 {
     if MOST_TEXT < s.len() {
         return refused(ILLEGAL, 0, 0);

@@ -23,7 +23,7 @@ use sheet::both;
 use sheet::causes::FIELDS;
 use sheet::causes::LIMIT;
 use sheet::causes::MOST_WISHES as FULL;
-use sheet::causes::row;
+use sheet::causes::test;
 use sheet::tables;
 use sheet::tables::Counts;
 use sheet::tables::MOST_WISHES;
@@ -154,7 +154,7 @@ fn literals_at(s: &[u8], at: usize, switches: u32) -> Wish
     w
 }
 
-// Puts wish n into its columns, if there is room.
+// Puts wish n into its arrays, if there is room.
 fn keep_wish(
     first: &mut [u32; MOST_WISHES],
     second: &mut [u32; MOST_WISHES],
@@ -185,7 +185,7 @@ fn with_wish(l: Lines, w: Wish) -> Lines
     ensures { λ r. ⌜ WithWish l w r ⌝ }
 {
     let n = l.wishes;
-    let fault = row(LIMIT, n < FULL, row(FIELDS, w.known, 0));
+    let fault = test(LIMIT, n < FULL, test(FIELDS, w.known, 0));
     let before = l.fault;
     let line = l.rules as usize + n as usize + HEAD_LINES + 1;
     Lines {

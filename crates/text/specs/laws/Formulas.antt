@@ -12,14 +12,14 @@ use borrow.Author.Tests.{eqb-true, eqb-false, eq-eqb}
 use Rattle.scope.specs.Sheet.{Gate, mostGates}
 use Rattle.scope.specs.Typed.{Formula, typed, ors, ands, factor, mostText, mostNested, operators, point, gatesOf, known}
 use Rattle.scope.specs.laws.Tests.{clash}
-use Rattle.scope.specs.laws.Fields.{length-snoc}
+use Rattle.scope.specs.laws.Lists.{length-snoc}
 use Rattle.scope.specs.Parsing as parsing
 use Rattle.scope.specs.Parsing.{Around, line, Slot, digits, zeroOk, numberDone, bracket, first, bar, head, amp, bang, nested, operand, after, operandDone, joinedOr, outside}
-use Rattle.sheet.specs.Steps.{GateColumns}
+use Rattle.sheet.specs.Steps.{GateArrays}
 use Rattle.scope.specs.Tables.{kindOf, leftOf, rightOf}
 use Rattle.text.specs.Look.{end, look, skip}
 use Rattle.text.specs.Words.{Stuck, Came, NumberRead}
-use Rattle.text.specs.Formulas.{Holds, Built, Filled, OrsCame, OrsStuck, OrsCome, LevelRead, FactorRead, AndsRead, OrsRead, AtomRead, Asked, notSign, openSign, andSign, orSign, signAt, operandAt, goesOn, bytesLeft, Ends, gated, Gated, OrGated, OrsTurn, badAt, moved, closedOf}
+use Rattle.text.specs.Formulas.{GatesHold, Built, Filled, OrsCame, OrsStuck, OrsCome, LevelRead, FactorRead, AndsRead, OrsRead, AtomRead, Asked, notSign, openSign, andSign, orSign, signAt, operandAt, goesOn, bytesLeft, Ends, gated, Gated, OrGated, OrsTurn, badAt, moved, closedOf}
 use Rattle.text.specs.declared.formula.Parsed.{Parsed}
 use Rattle.text.specs.declared.words.Word.{Word}
 use Rattle.text.specs.laws.Walks.{stands, came-came, came-stuck}
@@ -44,14 +44,14 @@ module _ (a f letter l m : ℕ) (p r : Parsed) (kind left right : List ℕ) wher
   gated-full b n e = record {
     stays = λ t. clash t b;
     adds = λ t. e;
-    holds = λ t gs g h x y z. record { count = omega (arith, h .count, length-snoc gs g); columns = λ i. absurd (omega arith) };
+    holds = λ t gs g h x y z. record { count = omega (arith, h .count, length-snoc gs g); arrays = λ i. absurd (omega arith) };
   }
 
-  pub gated-put : (kinds lefts rights : List ℕ) → p .bad ≡ false → p .gates < mostGates → r ≡ gated a f p → ((gs : List Gate) (g : Gate) → p .gates ≡ length gs → GateColumns gs kind left right → letter ≡ kindOf g → l ≡ leftOf g → m ≡ rightOf g → GateColumns (gs ++ g ∷ []) kinds lefts rights) → Gated a f letter l m p r kind left right kinds lefts rights
+  pub gated-put : (kinds lefts rights : List ℕ) → p .bad ≡ false → p .gates < mostGates → r ≡ gated a f p → ((gs : List Gate) (g : Gate) → p .gates ≡ length gs → GateArrays gs kind left right → letter ≡ kindOf g → l ≡ leftOf g → m ≡ rightOf g → GateArrays (gs ++ g ∷ []) kinds lefts rights) → Gated a f letter l m p r kind left right kinds lefts rights
   gated-put kinds lefts rights b n e put = record {
     stays = λ t. clash t b;
     adds = λ t. e;
-    holds = λ t gs g h x y z. record { count = omega (arith, h .count, length-snoc gs g); columns = λ i. put gs g (h .count) (h .columns (omega arith)) x y z };
+    holds = λ t gs g h x y z. record { count = omega (arith, h .count, length-snoc gs g); arrays = λ i. put gs g (h .count) (h .arrays (omega arith)) x y z };
   }
 
 -- ---- an operator that joins two formulas
@@ -89,7 +89,7 @@ module _ (J : Formula → Formula → Formula) (G : ℕ → ℕ → Gate) (lette
       }
 
   module _ (kind left right kinds lefts rights mid₁ mid₂ mid₃ ends₁ ends₂ ends₃ : List ℕ) where
-    -- the columns get the gates of the first operand, those of the second, and then the operator's own: the order of the definition
+    -- the arrays get the gates of the first operand, those of the second, and then the operator's own: the order of the definition
     join-filled : Filled a f g x (p .gates) kind left right kinds lefts rights → Filled a f (p .gates) y (q .gates) kinds lefts rights mid₁ mid₂ mid₃ → Gated a f letter (p .point) (q .point) q r mid₁ mid₂ mid₃ ends₁ ends₂ ends₃ → q .bad ≡ false → Filled a f g (J x y) (r .gates) kind left right ends₁ ends₂ ends₃
     join-filled h i k e gs o =
         let n : p .gates ≡ g + operators x = b .gates in
@@ -100,10 +100,10 @@ module _ (J : Formula → Formula → Formula) (G : ℕ → ℕ → Gate) (lette
         let m : q .point ≡ point a f (g + operators x) y = c .point ∙ ap (λ n. point a f n y) n in
         let w : gatesOf a f (p .gates) y ≡ v = ap (λ n. gatesOf a f n y) n in
         let s : ((gs ++ u) ++ v) ++ t ∷ [] ≡ gs ++ gatesOf a f g (J x y) = ap (λ l. l ++ t ∷ []) (append-assoc gs u v) ∙ append-assoc gs (u ++ v) (t ∷ []) ∙ ap (λ l. gs ++ l) (sym (j .gates-are a f g x y)) in
-        let held : Holds ((gs ++ u) ++ v) (q .gates) mid₁ mid₂ mid₃ = subst (λ l. Holds ((gs ++ u) ++ l) (q .gates) mid₁ mid₂ mid₃) w (i (gs ++ u) (h gs o)) in
+        let held : GatesHold ((gs ++ u) ++ v) (q .gates) mid₁ mid₂ mid₃ = subst (λ l. GatesHold ((gs ++ u) ++ l) (q .gates) mid₁ mid₂ mid₃) w (i (gs ++ u) (h gs o)) in
         let (y₁, y₂, y₃) = j .kind-is (point a f g x) (point a f (g + operators x) y) in
-        let z : Holds (((gs ++ u) ++ v) ++ t ∷ []) (q .gates + 1) ends₁ ends₂ ends₃ = k .holds e ((gs ++ u) ++ v) t held y₁ (l ∙ y₂) (m ∙ y₃) in
-        rw (k .adds e) (subst (λ l. Holds l (q .gates + 1) ends₁ ends₂ ends₃) s z)
+        let z : GatesHold (((gs ++ u) ++ v) ++ t ∷ []) (q .gates + 1) ends₁ ends₂ ends₃ = k .holds e ((gs ++ u) ++ v) t held y₁ (l ∙ y₂) (m ∙ y₃) in
+        rw (k .adds e) (subst (λ l. GatesHold l (q .gates + 1) ends₁ ends₂ ends₃) s z)
 
 -- ---- the levels
 
@@ -381,7 +381,7 @@ module _ (s : List ℕ) (depth a f g : ℕ) (ok : Bool) (at : ℕ) (asked : Aske
               formula = Formula.not x;
               came = λ o n. rw (k .adds b) (came-came s (operand o) (operand (bang o)) (operandDone o (Formula.not x)) at from (p .at) (to o n) (i .good b .came (bang o) (under o n)));
               built = m;
-              filled = λ gs o. rw (k .adds b) (subst (λ l. Holds l (p .gates + 1) ends₁ ends₂ ends₃) (append-assoc gs (gatesOf a f g x) (Gate.not (point a f g x) ∷ [])) (k .holds b (gs ++ gatesOf a f g x) (Gate.not (point a f g x)) (i .good b .filled gs o) refl (i .good b .built .point) refl));
+              filled = λ gs o. rw (k .adds b) (subst (λ l. GatesHold l (p .gates + 1) ends₁ ends₂ ends₃) (append-assoc gs (gatesOf a f g x) (Gate.not (point a f g x) ∷ [])) (k .holds b (gs ++ gatesOf a f g x) (Gate.not (point a f g x)) (i .good b .filled gs o) refl (i .good b .built .point) refl));
             };
           }
 
@@ -403,8 +403,8 @@ module _ (s : List ℕ) (depth a f g : ℕ) (ok : Bool) (at : ℕ) (asked : Aske
       inside : (b : p .bad ≡ false) (o : Around factor) → nested o + depth ≡ mostNested → OrsCome s (bracket o) from (i .good b .formula) (p .at)
       inside b o n = i .good b .came (bracket o) (under o n)
 
-      up-to : (b : p .bad ≡ false) (o : Around factor) (n : nested o + depth ≡ mostNested) → Came s (operand o) at (after (inside b o n .inner) (inside b o n .last)) (p .at)
-      up-to b o n = came-came s (operand o) (operand (head (first (bracket o)))) (after (inside b o n .inner) (inside b o n .last)) at from (p .at) (to o n) (inside b o n .came)
+      operand-came : (b : p .bad ≡ false) (o : Around factor) (n : nested o + depth ≡ mostNested) → Came s (operand o) at (after (inside b o n .inner) (inside b o n .last)) (p .at)
+      operand-came b o n = came-came s (operand o) (operand (head (first (bracket o)))) (after (inside b o n .inner) (inside b o n .last)) at from (p .at) (to o n) (inside b o n .came)
 
       shut : (b : p .bad ≡ false) → (c : Bool) → eqb (signAt s (p .at)) (code ")") ≡ c → FactorRead s depth a f g ok at r kind left right kinds lefts rights
       shut b true c =
@@ -426,7 +426,7 @@ module _ (s : List ℕ) (depth a f g : ℕ) (ok : Bool) (at : ℕ) (asked : Aske
             bad = λ t. clash t (rw z b);
             good = λ t. record {
               formula = x;
-              came = λ o n. rw z (subst (λ y. Came s (operand o) at (operandDone o y) (skip s (p .at) + 1)) (inside b o n .whole) (came-came s (operand o) (after (inside b o n .inner) (inside b o n .last)) (operandDone o (joinedOr (inside b o n .inner) (inside b o n .last))) at (p .at) (skip s (p .at) + 1) (up-to b o n) (close-walk s (inside b o n .inner) (inside b o n .last) (p .at) o (inside b o n .around) sign)));
+              came = λ o n. rw z (subst (λ y. Came s (operand o) at (operandDone o y) (skip s (p .at) + 1)) (inside b o n .whole) (came-came s (operand o) (after (inside b o n .inner) (inside b o n .last)) (operandDone o (joinedOr (inside b o n .inner) (inside b o n .last))) at (p .at) (skip s (p .at) + 1) (operand-came b o n) (close-walk s (inside b o n .inner) (inside b o n .last) (p .at) o (inside b o n .around) sign)));
               built = m;
               filled = rw z (i .good b .filled);
             };
@@ -436,7 +436,7 @@ module _ (s : List ℕ) (depth a f g : ℕ) (ok : Bool) (at : ℕ) (asked : Aske
           rw z record {
             within = skip-within s (p .at) (i .within);
             few = omega arith;
-            bad = λ t o n. came-stuck s (operand o) (after (inside b o n .inner) (inside b o n .last)) at (p .at) (skip s (p .at)) (up-to b o n) (close-stuck s (inside b o n .inner) (inside b o n .last) (p .at) o (inside b o n .around) (i .within) (no-and b) (no-or b) (eqb-false (signAt s (p .at)) (code ")") c));
+            bad = λ t o n. came-stuck s (operand o) (after (inside b o n .inner) (inside b o n .last)) at (p .at) (skip s (p .at)) (operand-came b o n) (close-stuck s (inside b o n .inner) (inside b o n .last) (p .at) o (inside b o n .around) (i .within) (no-and b) (no-or b) (eqb-false (signAt s (p .at)) (code ")") c));
             good = λ t. clash refl t;
           }
 

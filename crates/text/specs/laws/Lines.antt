@@ -10,21 +10,20 @@ use lib.Dec.{eqb, leb, ltb}
 use lib.ListN.{length, length-append}
 use borrow.Author.Tests.{eqb-true, eqb-false, eq-eqb}
 use Rattle.scope.specs.Sheet.{Clause, All, mostSwitches, mostFaults, mostGates, mostRules}
-use Rattle.scope.specs.Reading.{Row}
-use Rattle.scope.specs.Causes.{Met, First}
+use Rattle.scope.specs.Causes.{Test, Met, First}
 use Rattle.scope.specs.Text.{bytes}
-use Rattle.scope.specs.Typed.{Formula, Typed, typed, mostNested, operators, point, gatesOf, allGates, allPoints, known, ruleRows, wishRows, lineRows}
+use Rattle.scope.specs.Typed.{Formula, Typed, typed, mostNested, operators, point, gatesOf, allGates, allPoints, known, ruleTests, wishTests, lineTests}
 use Rattle.scope.specs.Texts.{FirstLine, here, later}
 use Rattle.scope.specs.Parsing.{line, first, head, nested, State, word, digits, switches, faults, ruleLine, operand, after, addRule, joinedOr, start, numberDone, move, step}
 use Rattle.scope.specs.laws.Tests.{clash}
-use Rattle.scope.specs.laws.Inverse.{all-append}
+use Rattle.scope.specs.laws.Alls.{all-append}
 use Rattle.scope.specs.laws.TypedSheets.{length-gates, length-points}
-use Rattle.sheet.specs.Steps.{rowOf}
+use Rattle.sheet.specs.Steps.{testOf}
 use Rattle.sheet.specs.Steps as sheet
-use Rattle.sheet.specs.laws.Rows.{row, none-left}
+use Rattle.sheet.specs.laws.Tests.{test, none-left}
 use Rattle.text.specs.Look.{end, look, skip}
 use Rattle.text.specs.Words.{Stuck, Came, WordRead, NamedRead}
-use Rattle.text.specs.Formulas.{Holds, OrsRead, OrsCome, Asked, Ends, andSign, orSign, badAt, moved, fedOf}
+use Rattle.text.specs.Formulas.{GatesHold, OrsRead, OrsCome, Asked, Ends, andSign, orSign, badAt, moved, fedOf}
 use Rattle.text.specs.Lines.{Faulted, FirstOf, HeadRead, stuckAt, ruleLetter, goesOnWith, NoMore, linesLeft, RulesHold, RulesTold, RulesRead, ruleFault, WithRule}
 use Rattle.text.specs.declared.formula.Parsed.{Parsed}
 use Rattle.text.specs.declared.formula.Points.{Points}
@@ -37,15 +36,15 @@ use Rattle.text.specs.laws.Signs.{feed-walk, feed-stuck}
 
 -- ---- the first fault
 
-fault-before : {c k : ℕ} {rss : List (List Row)} (more : List (List Row)) → FirstLine c k rss → FirstLine c k (rss ++ more)
+fault-before : {c k : ℕ} {rss : List (List Test)} (more : List (List Test)) → FirstLine c k rss → FirstLine c k (rss ++ more)
 fault-before more (here f) = here f
 fault-before more (later m f) = later m (fault-before more f)
 
-fault-after : {c : ℕ} (rss : List (List Row)) (rs : List Row) → All Met rss → First c rs → FirstLine c (length rss + 1) (rss ++ rs ∷ [])
+fault-after : {c : ℕ} (rss : List (List Test)) (rs : List Test) → All Met rss → First c rs → FirstLine c (length rss + 1) (rss ++ rs ∷ [])
 fault-after [] rs m f = here f
 fault-after {c} (qs ∷ rss) rs (m, ms) f = subst (λ k. FirstLine c k (qs ∷ rss ++ rs ∷ [])) (omega arith) (later m (fault-after rss rs ms f))
 
-module _ (rss : List (List Row)) (rs : List Row) (f : Fault) (h : Faulted rss f) where
+module _ (rss : List (List Test)) (rs : List Test) (f : Fault) (h : Faulted rss f) where
   -- an earlier line has a fault
   pub faulted-before : f .number ≢ 0 → Faulted (rss ++ rs ∷ []) f
   faulted-before n = record { met = λ e. absurd (n e); first = λ e. fault-before (rs ∷ []) (h .first n) }
@@ -89,17 +88,17 @@ module _ (s : List ℕ) (a : Word) (ha : NamedRead s (bytes "switches ") true 0 
           }
 
 -- as lines: no fault stands before them
-pub head-fault : (a f : ℕ) (none one two : Fault) (m n : ℕ) → none .number ≡ 0 → FirstOf none m 1 one → FirstOf one n 2 two → m ≡ rowOf 4 (leb a mostSwitches) 0 → n ≡ rowOf 4 (leb f mostFaults) 0 → Faulted (lineRows (typed a f [] [])) two
-unfolding lineRows ruleRows wishRows
+pub head-fault : (a f : ℕ) (none one two : Fault) (m n : ℕ) → none .number ≡ 0 → FirstOf none m 1 one → FirstOf one n 2 two → m ≡ testOf 4 (leb a mostSwitches) 0 → n ≡ testOf 4 (leb f mostFaults) 0 → Faulted (lineTests (typed a f [] [])) two
+unfolding lineTests ruleTests wishTests
 head-fault a f none one two m n z g h e d =
-    let k : Faulted (((4, leb a mostSwitches) ∷ []) ∷ []) one = g [] ((4, leb a mostSwitches) ∷ []) record { met = λ t. tt; first = λ t. absurd (t z) } (row 4 e refl (omega arith) none-left) refl in
-    h (((4, leb a mostSwitches) ∷ []) ∷ []) ((4, leb f mostFaults) ∷ []) k (row 4 d refl (omega arith) none-left) refl
+    let k : Faulted (((4, leb a mostSwitches) ∷ []) ∷ []) one = g [] ((4, leb a mostSwitches) ∷ []) record { met = λ t. tt; first = λ t. absurd (t z) } (test 4 e refl (omega arith) none-left) refl in
+    h (((4, leb a mostSwitches) ∷ []) ∷ []) ((4, leb f mostFaults) ∷ []) k (test 4 d refl (omega arith) none-left) refl
 
 -- ---- one more rule in the sheet: m gates and j rules stand before it
 
 module _ (a f : ℕ) where
-  abbrev ruleRow : (m j : ℕ) → Formula → List Row
-  ruleRow m j x = (5, leb (m + operators x) mostGates && ltb j mostRules) ∷ (6, known a f x) ∷ []
+  abbrev ruleLineTests : (m j : ℕ) → Formula → List Test
+  ruleLineTests m j x = (5, leb (m + operators x) mostGates && ltb j mostRules) ∷ (6, known a f x) ∷ []
 
   -- the gates of the rules after the first
   later-gates : (n : ℕ) (y : Formula) (ys : List Formula) (m : ℕ) → n + length (allGates a f n (y ∷ ys)) ≡ m → n + operators y + length (allGates a f (n + operators y) ys) ≡ m
@@ -111,10 +110,10 @@ module _ (a f : ℕ) where
   no-gates n m e = omega arith
 
   module _ (x : Formula) where
-    rows-snoc : (n i : ℕ) (ys : List Formula) (m j : ℕ) → n + length (allGates a f n ys) ≡ m → i + length ys ≡ j → ruleRows a f n i (ys ++ x ∷ []) ≡ ruleRows a f n i ys ++ ruleRow m j x ∷ []
-    unfolding ruleRows
-    rows-snoc n i [] m j e d = let q : i ≡ j = omega arith in ap₂ (λ m j. ruleRow m j x ∷ []) (no-gates n m e) q
-    rows-snoc n i (y ∷ ys) m j e d = ap (λ l. ruleRow n i y ∷ l) (rows-snoc (n + operators y) (suc i) ys m j (later-gates n y ys m e) (omega arith))
+    tests-snoc : (n i : ℕ) (ys : List Formula) (m j : ℕ) → n + length (allGates a f n ys) ≡ m → i + length ys ≡ j → ruleTests a f n i (ys ++ x ∷ []) ≡ ruleTests a f n i ys ++ ruleLineTests m j x ∷ []
+    unfolding ruleTests
+    tests-snoc n i [] m j e d = let q : i ≡ j = omega arith in ap₂ (λ m j. ruleLineTests m j x ∷ []) (no-gates n m e) q
+    tests-snoc n i (y ∷ ys) m j e d = ap (λ l. ruleLineTests n i y ∷ l) (tests-snoc (n + operators y) (suc i) ys m j (later-gates n y ys m e) (omega arith))
 
     gates-snoc : (n : ℕ) (ys : List Formula) (m : ℕ) → n + length (allGates a f n ys) ≡ m → allGates a f n (ys ++ x ∷ []) ≡ allGates a f n ys ++ gatesOf a f m x
     unfolding allGates
@@ -126,24 +125,24 @@ module _ (a f : ℕ) where
     points-snoc n [] m e = ap (λ m. point a f m x ∷ []) (no-gates n m e)
     points-snoc n (y ∷ ys) m e = ap (λ l. point a f n y ∷ l) (points-snoc (n + operators y) ys m (later-gates n y ys m e))
 
-    lines-snoc : (ys : List Formula) (m j : ℕ) → length (allGates a f 0 ys) ≡ m → length ys ≡ j → lineRows (typed a f (ys ++ x ∷ []) []) ≡ lineRows (typed a f ys []) ++ ruleRow m j x ∷ []
-    unfolding lineRows wishRows
+    lines-snoc : (ys : List Formula) (m j : ℕ) → length (allGates a f 0 ys) ≡ m → length ys ≡ j → lineTests (typed a f (ys ++ x ∷ []) []) ≡ lineTests (typed a f ys []) ++ ruleLineTests m j x ∷ []
+    unfolding lineTests wishTests
     lines-snoc ys m j e d = ap (λ l. ((4, leb a mostSwitches) ∷ []) ∷ ((4, leb f mostFaults) ∷ []) ∷ l)
-        (append-nil (ruleRows a f 0 0 (ys ++ x ∷ [])) ∙ rows-snoc 0 0 ys m j (omega arith) (omega arith) ∙ ap (λ l. l ++ ruleRow m j x ∷ []) (sym (append-nil (ruleRows a f 0 0 ys))))
+        (append-nil (ruleTests a f 0 0 (ys ++ x ∷ [])) ∙ tests-snoc 0 0 ys m j (omega arith) (omega arith) ∙ ap (λ l. l ++ ruleLineTests m j x ∷ []) (sym (append-nil (ruleTests a f 0 0 ys))))
 
-  rule-count : (n i : ℕ) (ys : List Formula) → length (ruleRows a f n i ys) ≡ length ys
-  unfolding ruleRows
+  rule-count : (n i : ℕ) (ys : List Formula) → length (ruleTests a f n i ys) ≡ length ys
+  unfolding ruleTests
   rule-count n i [] = refl
   rule-count n i (y ∷ ys) = ap suc (rule-count (n + operators y) (suc i) ys)
 
-  wish-count : (j : ℕ) (ws : List Clause) → length (wishRows a f j ws) ≡ length ws
-  unfolding wishRows
+  wish-count : (j : ℕ) (ws : List Clause) → length (wishTests a f j ws) ≡ length ws
+  unfolding wishTests
   wish-count j [] = refl
   wish-count j (w ∷ ws) = ap suc (wish-count (suc j) ws)
 
-  pub line-count : (ys : List Formula) (ws : List Clause) → length (lineRows (typed a f ys ws)) ≡ 2 + length ys + length ws
-  unfolding lineRows
-  line-count ys ws = omega (arith, length-append (ruleRows a f 0 0 ys) (wishRows a f 0 ws), rule-count 0 0 ys, wish-count 0 ws)
+  pub line-count : (ys : List Formula) (ws : List Clause) → length (lineTests (typed a f ys ws)) ≡ 2 + length ys + length ws
+  unfolding lineTests
+  line-count ys ws = omega (arith, length-append (ruleTests a f 0 0 ys) (wishTests a f 0 ws), rule-count 0 0 ys, wish-count 0 ws)
 
 -- ---- a rule line
 
@@ -243,7 +242,7 @@ module _ (s : List ℕ) (c : Points) (l : Lines) (kind left right rule : List �
               let word-ahead : l .at < w .at = hw .good b formula .ahead in
               let before : length (allGates a f 0 xs) ≡ l .gates = sym (h .gates .count) in
               let count : l .rules ≡ length xs = h .points .count ∙ length-points a f 0 xs in
-              let row-fault : sheet.Fault (ruleRow a f (l .gates) (l .rules) x) (ruleFault (q .gates) (l .rules) (q .known)) = row 5 refl (ap (λ n. leb n mostGates && ltb (l .rules) mostRules) gates-are) (omega arith) (row 6 refl known-is (omega arith) none-left) in (
+              let row-fault : sheet.Fault (ruleLineTests a f (l .gates) (l .rules) x) (ruleFault (q .gates) (l .rules) (q .known)) = test 5 refl (ap (λ n. leb n mostGates && ltb (l .rules) mostRules) gates-are) (omega arith) (test 6 refl known-is (omega arith) none-left) in (
                 record {
                   good = λ u. record {
                     begun = record {
@@ -257,9 +256,9 @@ module _ (s : List ℕ) (c : Points) (l : Lines) (kind left right rule : List �
                     rules = xs ++ x ∷ [];
                     came = rw at-is (subst (λ y. Came s start 0 (ruleLine (addRule told y)) (p .at + 1)) (read g .whole) (came-came s start (after (read g .inner) (read g .last)) (ruleLine (addRule told (joinedOr (read g .inner) (read g .last)))) 0 (p .at) (p .at + 1) (to-end g) (feed-walk s (read g .inner) (read g .last) (p .at) told (read g .around) e)));
                     wishes = k .wishes ∙ h .wishes;
-                    gates = subst (λ gs. Holds gs (r .gates) kinds lefts rights) (sym (gates-snoc a f x 0 xs (l .gates) (omega arith))) (subst (λ n. Holds (allGates a f 0 xs ++ gatesOf a f (l .gates) x) n kinds lefts rights) (sym (k .gates ∙ ap (λ q. q .gates) z)) (hp .good g .filled (allGates a f 0 xs) (h .gates)));
+                    gates = subst (λ gs. GatesHold gs (r .gates) kinds lefts rights) (sym (gates-snoc a f x 0 xs (l .gates) (omega arith))) (subst (λ n. GatesHold (allGates a f 0 xs ++ gatesOf a f (l .gates) x) n kinds lefts rights) (sym (k .gates ∙ ap (λ q. q .gates) z)) (hp .good g .filled (allGates a f 0 xs) (h .gates)));
                     points = rw (points-snoc a f x 0 xs (l .gates) (omega arith), k .rules, ← point-is) (keep (allPoints a f 0 xs) (h .points));
-                    fault = rw (lines-snoc a f x xs (l .gates) (l .rules) before (sym count)) (k .fault (lineRows (typed a f xs [])) (ruleRow a f (l .gates) (l .rules) x) (h .fault) row-fault (omega (arith, line-count a f xs [])));
+                    fault = rw (lines-snoc a f x xs (l .gates) (l .rules) before (sym count)) (k .fault (lineTests (typed a f xs [])) (ruleLineTests a f (l .gates) (l .rules) x) (h .fault) row-fault (omega (arith, line-count a f xs [])));
                   };
                   bad = λ u. clash u (k .good);
                 },

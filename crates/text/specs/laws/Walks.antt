@@ -128,8 +128,8 @@ came s st to at b e =
     }
 
 -- no byte fits
-pub stops-within : (s : List ℕ) (st : State) (at : ℕ) → at < length s → step st (look s at) ≡ none → Stuck s st at at
-stops-within s st at h e = record { within = omega arith; walk = walk-byte s st at h ∙ ap (λ o. goOn o (length s - at) (λ to. walk to (drop (at + 1) s))) e }
+pub stuck-within : (s : List ℕ) (st : State) (at : ℕ) → at < length s → step st (look s at) ≡ none → Stuck s st at at
+stuck-within s st at h e = record { within = omega arith; walk = walk-byte s st at h ∙ ap (λ o. goOn o (length s - at) (λ to. walk to (drop (at + 1) s))) e }
 
 -- and the text may not end here
 pub stops : (s : List ℕ) (st : State) (at : ℕ) → at ≤ length s → step st (look s at) ≡ none → atEnd st ≡ stuck 0 → Stuck s st at at
@@ -138,7 +138,7 @@ stops s st at h e f = record { within = h; walk = go (decLe (length s) at) }
   where
     go : Dec (length s ≤ at) → walk st (drop at s) ≡ stuck (length s - at)
     go (yes p) = let n : length s - at ≡ 0 = omega arith in rw (drop-of-length-le s {i = at} p, n) f
-    go (no p) = stops-within s st at (omega arith) e .walk
+    go (no p) = stuck-within s st at (omega arith) e .walk
 
 -- ---- one after the other
 

@@ -13,17 +13,17 @@ use lib.Dec.{eqb, leb, ltb}
 use lib.ListN.{length, drop}
 use borrow.Author.Tests.{ltb-true, eqb-true, not-true, lt-ltb, le-ltb, ne-eqb}
 use Rattle.scope.specs.Sheet.{Number, number, Clause, mostWishes, mostLiterals}
-use Rattle.scope.specs.Reading.{Row}
+use Rattle.scope.specs.Causes.{Test}
 use Rattle.scope.specs.Meaning.{all}
 use Rattle.scope.specs.Text.{bytes}
-use Rattle.scope.specs.Typed.{Formula, Typed, typed, mostText, wishRows, lineRows}
+use Rattle.scope.specs.Typed.{Formula, Typed, typed, mostText, wishTests, lineTests}
 use Rattle.scope.specs.Parsing.{word, literal, start, wishLine, wish, ended, addWish, numberDone, move, step, atEnd, walk}
 use Rattle.scope.specs.laws.Tests.{clash, both}
-use Rattle.scope.specs.laws.Fields.{length-snoc}
+use Rattle.scope.specs.laws.Lists.{length-snoc}
 use Rattle.sheet.specs.Steps as sheet
-use Rattle.sheet.specs.Steps.{WishColumns}
+use Rattle.sheet.specs.Steps.{WishArrays}
 use Rattle.scope.specs.Tables.{literalCode, literalAt}
-use Rattle.sheet.specs.laws.Rows.{row, none-left}
+use Rattle.sheet.specs.laws.Tests.{test, none-left}
 use Rattle.text.specs.Look.{look, past}
 use Rattle.text.specs.Words.{Stuck, Came, WordRead, NamedRead}
 use Rattle.text.specs.Lines.{Faulted, stuckAt, wishLetter, goesOnWith, linesLeft, Begun, noWish, Literals, WithLiteral, oneLiteral, named, LiteralRead, moreLiterals, literalsLeft, LiteralsRead, WishesTold, wishFault, WithWish, Further, WishKept, WishLineRead, WishLinesRead}
@@ -44,13 +44,13 @@ anyTyped = typed 0 0 [] []
 abbrev pub extended : Wish → (n : ℕ) → Bool → (first second third : ℕ) → Wish
 extended w n known x y z = record { bad = false; at = n; count = w .count + 1; first = x; second = y; third = z; known = known }
 
-all-more : (f : Number → Bool) (xs : Clause) (x : Number) → (all f xs && f x) ≡ all f (xs ++ x ∷ [])
+all-more : (f : Number → Bool) (xs : Clause) (x : Number) → (all xs f && f x) ≡ all (xs ++ x ∷ []) f
 all-more f [] x = sym (and-true (f x))
-all-more f (y ∷ xs) x = and-assoc (f y) (all f xs) (f x) ∙ ap (λ b. f y && b) (all-more f xs x)
+all-more f (y ∷ xs) x = and-assoc (f y) (all xs f) (f x) ∙ ap (λ b. f y && b) (all-more f xs x)
 
 module _ (w : Wish) (n letter : ℕ) (known now : Bool) (b : now ≡ (w .known && known)) where
-  still-known : (a : ℕ) (xs : Clause) (x : Number) → Literals a w xs → known ≡ leb (x .size) a → now ≡ all (λ x. leb (x .size) a) (xs ++ x ∷ [])
-  still-known a xs x h k = b ∙ ap (λ t. t && known) (h .known) ∙ ap (λ t. all (λ x. leb (x .size) a) xs && t) k ∙ all-more (λ x. leb (x .size) a) xs x
+  still-known : (a : ℕ) (xs : Clause) (x : Number) → Literals a w xs → known ≡ leb (x .size) a → now ≡ all (xs ++ x ∷ []) (λ x. leb (x .size) a)
+  still-known a xs x h k = b ∙ ap (λ t. t && known) (h .known) ∙ ap (λ t. all xs (λ x. leb (x .size) a) && t) k ∙ all-more (λ x. leb (x .size) a) xs x
 
   -- the count is the number of literals so far, so it says which place is the next: here and in the next two
   pub first-literal : w .count ≡ 0 → WithLiteral w n letter known (extended w n now letter (w .second) (w .third))
@@ -194,37 +194,37 @@ module _ (s : List ℕ) (a at : ℕ) where
         bad = λ t v. came-stuck s (wish v []) (wish v xs) at (w .at + 1) (r .at) (to v) (q .bad t v xs);
       }
 
--- ---- the columns of the wishes
+-- ---- the arrays of the wishes
 
 module _ (n x y z : ℕ) (first second third : List ℕ) where
   -- a wish for which there is no room is counted
   pub wish-full : mostWishes ≤ n → WishKept n x y z first second third first second third
-  wish-full e ws w h i j k = record { count = omega (arith, h .count, length-snoc ws w); columns = λ l. absurd (omega arith) }
+  wish-full e ws w h i j k = record { count = omega (arith, h .count, length-snoc ws w); arrays = λ l. absurd (omega arith) }
 
-  pub wish-put : (firsts seconds thirds : List ℕ) → n < mostWishes → ((ws : List Clause) (w : Clause) → n ≡ length ws → WishColumns ws first second third → x ≡ literalAt 0 w → y ≡ literalAt 1 w → z ≡ literalAt 2 w → WishColumns (ws ++ w ∷ []) firsts seconds thirds) → WishKept n x y z first second third firsts seconds thirds
-  wish-put firsts seconds thirds e put ws w h i j k = record { count = omega (arith, h .count, length-snoc ws w); columns = λ l. put ws w (h .count) (h .columns (omega arith)) i j k }
+  pub wish-put : (firsts seconds thirds : List ℕ) → n < mostWishes → ((ws : List Clause) (w : Clause) → n ≡ length ws → WishArrays ws first second third → x ≡ literalAt 0 w → y ≡ literalAt 1 w → z ≡ literalAt 2 w → WishArrays (ws ++ w ∷ []) firsts seconds thirds) → WishKept n x y z first second third firsts seconds thirds
+  wish-put firsts seconds thirds e put ws w h i j k = record { count = omega (arith, h .count, length-snoc ws w); arrays = λ l. put ws w (h .count) (h .arrays (omega arith)) i j k }
 
 -- ---- the rows of a wish
 
-abbrev wishRow : (a j : ℕ) → Clause → List Row
-wishRow a j w = (5, ltb j mostWishes) ∷ (6, all (λ x. leb (x .size) a) w) ∷ []
+abbrev wishLineTests : (a j : ℕ) → Clause → List Test
+wishLineTests a j w = (5, ltb j mostWishes) ∷ (6, all w (λ x. leb (x .size) a)) ∷ []
 
-wish-fault : (a n j : ℕ) (known : Bool) (w : Clause) → n ≡ j → known ≡ all (λ x. leb (x .size) a) w → sheet.Fault (wishRow a j w) (wishFault n known)
-wish-fault a n j known w e f = row 5 refl (ap (λ k. ltb k mostWishes) e) (omega arith) (row 6 refl f (omega arith) none-left)
+wish-fault : (a n j : ℕ) (known : Bool) (w : Clause) → n ≡ j → known ≡ all w (λ x. leb (x .size) a) → sheet.Fault (wishLineTests a j w) (wishFault n known)
+wish-fault a n j known w e f = test 5 refl (ap (λ k. ltb k mostWishes) e) (omega arith) (test 6 refl f (omega arith) none-left)
 
 module _ (a f : ℕ) where
-  -- a row has the number of the wishes before it, which grows by one with each
-  wish-rows : (j : ℕ) (ws : List Clause) (w : Clause) → wishRows a f j (ws ++ w ∷ []) ≡ wishRows a f j ws ++ wishRow a (j + length ws) w ∷ []
-  unfolding wishRows
-  wish-rows j [] w = rw add-zero
-  wish-rows j (v ∷ ws) w =
+  -- the tests of a line have the number of the wishes before it, which grows by one with each
+  wish-tests : (j : ℕ) (ws : List Clause) (w : Clause) → wishTests a f j (ws ++ w ∷ []) ≡ wishTests a f j ws ++ wishLineTests a (j + length ws) w ∷ []
+  unfolding wishTests
+  wish-tests j [] w = rw add-zero
+  wish-tests j (v ∷ ws) w =
       let n : suc j + length ws ≡ j + suc (length ws) = omega arith in
-      ap (λ l. wishRow a j v ∷ l) (wish-rows (suc j) ws w ∙ ap (λ i. wishRows a f (suc j) ws ++ wishRow a i w ∷ []) n)
+      ap (λ l. wishLineTests a j v ∷ l) (wish-tests (suc j) ws w ∙ ap (λ i. wishTests a f (suc j) ws ++ wishLineTests a i w ∷ []) n)
 
-  line-rows : (xs : List Formula) (ws : List Clause) (w : Clause) → lineRows (typed a f xs (ws ++ w ∷ [])) ≡ lineRows (typed a f xs ws) ++ wishRow a (length ws) w ∷ []
-  unfolding lineRows
+  line-rows : (xs : List Formula) (ws : List Clause) (w : Clause) → lineTests (typed a f xs (ws ++ w ∷ [])) ≡ lineTests (typed a f xs ws) ++ wishLineTests a (length ws) w ∷ []
+  unfolding lineTests
   line-rows xs ws w =
-      let e : wishRows a f 0 (ws ++ w ∷ []) ≡ wishRows a f 0 ws ++ wishRow a (length ws) w ∷ [] = wish-rows 0 ws w ∙ rw zero-add in
+      let e : wishTests a f 0 (ws ++ w ∷ []) ≡ wishTests a f 0 ws ++ wishLineTests a (length ws) w ∷ [] = wish-tests 0 ws w ∙ rw zero-add in
       rw (e, append-assoc)
 
 -- ---- one more line
@@ -268,7 +268,7 @@ module _ (s : List ℕ) (c : Points) (l r : Lines) (begun : Begun s c l) (letter
             let o : (ltb (length xs) mostLiterals && eqb (look s (w .at)) (code " ")) ≡ false = rw (g, lits .good g .1 .count) at m in
             halts (w .at) e (λ v. came-stuck s (wishLine v) (ended v xs) (l .at) (w .at) (w .at) (to-ended v) (ended-stuck s v xs (w .at) (to-ended v .within) o f))
 
-        -- the literals are one more wish: its walk, its columns and its fault come after those told so far
+        -- the literals are one more wish: its walk, its arrays and its fault come after those told so far
         pub wish-read : look s (w .at) ≡ code "\n" → WishKept (l .wishes) (w .first) (w .second) (w .third) first second third firsts seconds thirds → WithWish l w r → WishLineRead s c l r first second third firsts seconds thirds
         wish-read e keep q = ((λ rules told. record { good = λ t. told-more rules told; bad = λ t. clash t (q .good) }), (λ t. (further, omega (arith, q .at, to-ended anyTyped .ahead))))
           where
@@ -304,8 +304,8 @@ module _ (s : List ℕ) (c : Points) (l r : Lines) (begun : Begun s c l) (letter
                   wishes = ws ++ xs ∷ [];
                   came = rw (q .at) (came-came s start (wishLine v) (wishLine (addWish v xs)) 0 (l .at) (w .at + 1) (told .came) (line v));
                   count = q .rules ∙ told .count;
-                  columns = rw (q .wishes) (keep ws xs (told .columns) (h .first) (h .second) (h .third));
-                  fault = subst (λ rss. Faulted rss (r .fault)) (sym (line-rows a f rules ws xs)) (q .fault (lineRows v) (wishRow a (length ws) xs) (told .fault) (wish-fault a (l .wishes) (length ws) (w .known) xs (told .columns .count) (h .known)) (omega (arith, line-count a f rules ws, told .count, told .columns .count)));
+                  arrays = rw (q .wishes) (keep ws xs (told .arrays) (h .first) (h .second) (h .third));
+                  fault = subst (λ rss. Faulted rss (r .fault)) (sym (line-rows a f rules ws xs)) (q .fault (lineTests v) (wishLineTests a (length ws) xs) (told .fault) (wish-fault a (l .wishes) (length ws) (w .known) xs (told .arrays .count) (h .known)) (omega (arith, line-count a f rules ws, told .count, told .arrays .count)));
                 }
 
 -- ---- all lines

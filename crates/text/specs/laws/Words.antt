@@ -123,9 +123,9 @@ module _ (s : List ℕ) (zero : Bool) (at : ℕ) (within : at ≤ length s) (r :
   number-none e d = number-bad (λ slot h. rw (ne-eqb (look s at) (code "0") e, no-digit (look s at) d))
 
   module _ (e : look s at ≢ code "0") (low : code "0" ≤ look s at) (high : look s at ≤ code "9") where
-    first-digit : (slot : Slot) → Came s (digits slot) at (second slot (look s at - code "0")) (at + 1)
+    digit-read : (slot : Slot) → Came s (digits slot) at (second slot (look s at - code "0")) (at + 1)
     unfolding step move
-    first-digit slot = came s (digits slot) (second slot (look s at - code "0")) at (omega arith) (rw (ne-eqb (look s at) (code "0") e, a-digit (look s at) low high))
+    digit-read slot = came s (digits slot) (second slot (look s at - code "0")) at (omega arith) (rw (ne-eqb (look s at) (code "0") e, a-digit (look s at) low high))
 
     -- a byte that is no digit moves on from a first digit as from a number that is complete
     pub number-one : NoDigit (look s (at + 1)) → r ≡ record { bad = false; at = at + 1; value = look s at - code "0" } → NumberRead s zero at r
@@ -133,7 +133,7 @@ module _ (s : List ℕ) (zero : Bool) (at : ℕ) (within : at ≤ length s) (r :
     number-one d q = rw q record {
       good = λ t slot h.
           let n : ℕ = look s at - code "0" in
-          let c : Came s (digits slot) at (second slot n) (at + 1) = first-digit slot in
+          let c : Came s (digits slot) at (second slot n) (at + 1) = digit-read slot in
           let (m, f) = number-plain slot n in
           record { ahead = c .ahead; within = c .within; walk = c .walk ∙ alike s (second slot n) (numberDone slot n) (at + 1) (rw (no-digit (look s (at + 1)) d, m (look s (at + 1)))) (rw f) };
       few = omega arith;
@@ -146,7 +146,7 @@ module _ (s : List ℕ) (zero : Bool) (at : ℕ) (within : at ≤ length s) (r :
     number-two l h q = rw q record {
       good = λ t slot z.
           let n : ℕ = look s at - code "0" in
-          let c : Came s (digits slot) at (second slot n) (at + 1) = first-digit slot in
+          let c : Came s (digits slot) at (second slot n) (at + 1) = digit-read slot in
           let k : at + 1 + 1 ≡ at + 2 = omega arith in
           let d : Came s (second slot n) (at + 1) (numberDone slot (n * 10 + (look s (at + 1) - code "0"))) (at + 2) = rw k at (came s (second slot n) (numberDone slot (n * 10 + (look s (at + 1) - code "0"))) (at + 1) (omega arith) (rw (a-digit (look s (at + 1)) l h))) in
           came-came s (digits slot) (second slot n) (numberDone slot (n * 10 + (look s (at + 1) - code "0"))) at (at + 1) (at + 2) c d;

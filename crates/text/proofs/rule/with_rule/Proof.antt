@@ -1,7 +1,7 @@
 -- `rule::with_rule` meets its contract: the number that the two rows give is the line's own fault, which `first_of` takes if no earlier line has one.
 use mathlib.Core.Path.{refl, ap₂, _∙_}
 use native.Mathlib.Omega.{arith}
-use Rattle.sheet.specs.Steps.{rowOf}
+use Rattle.sheet.specs.Steps.{testOf}
 use borrow.Author.Needs.{needs}
 use Rattle.text.proofs.rule.with_rule.Statement.{statement}
 use Rattle.text.proofs.rule.with_rule.Tie as tie
@@ -9,11 +9,11 @@ use Rattle.text.proofs.rule.with_rule.Tie as tie
 both-requires : tie.Need-both-requires
 both-requires c κs = search needs
 
-row-requires : tie.Need-row-requires
-row-requires c κs = search needs
+test-requires : tie.Need-test-requires
+test-requires c κs = search needs
 
-row-requires-2 : tie.Need-row-requires-2
-row-requires-2 c κs = search needs
+test-requires-2 : tie.Need-test-requires-2
+test-requires-2 c κs = search needs
 
 add-t9 : tie.Need-add-t9
 add-t9 c = search needs
@@ -32,7 +32,7 @@ first-of-requires c κs = search needs
 
 returns : tie.Need-returns
 returns c =
-    let e = c .before .before .row2 .ensures ∙ ap₂ (rowOf 5) (c .before .before .before .before .both .ensures) (c .before .before .before .row .ensures) in
+    let e = c .before .before .test2 .ensures ∙ ap₂ (testOf 5) (c .before .before .before .before .both .ensures) (c .before .before .before .test .ensures) in
     record {
       good = refl;
       at = refl;
@@ -47,8 +47,8 @@ with-rule-spec =
     tie.close
     (tie.spec
     both-requires
-    row-requires
-    row-requires-2
+    test-requires
+    test-requires-2
     add-t9
     cast-first-of
     add-first-of

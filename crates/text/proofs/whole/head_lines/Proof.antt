@@ -5,14 +5,14 @@ use borrow.Author.Needs.{needs}
 use Rattle.text.proofs.whole.head_lines.Statement.{statement}
 use Rattle.text.proofs.whole.head_lines.Tie as tie
 
-row-requires : tie.Need-row-requires
-row-requires c κs = search needs
+test-requires : tie.Need-test-requires
+test-requires c κs = search needs
 
 first-of-requires : tie.Need-first-of-requires
 first-of-requires c κs = search needs
 
-row-requires-2 : tie.Need-row-requires-2
-row-requires-2 c κs = search needs
+test-requires-2 : tie.Need-test-requires-2
+test-requires-2 c κs = search needs
 
 first-of-requires-2 : tie.Need-first-of-requires-2
 first-of-requires-2 c κs = search needs
@@ -25,9 +25,9 @@ returns c =
       gates = refl;
       rules = refl;
       wishes = refl;
-      fault = head-fault _ _ _ _ _ _ _ refl (c .before .before .before .first-of .ensures) (c .first-of2 .ensures) (c .before .before .before .before .row .ensures) (c .before .row2 .ensures);
+      fault = head-fault _ _ _ _ _ _ _ refl (c .before .before .before .first-of .ensures) (c .first-of2 .ensures) (c .before .before .before .before .test .ensures) (c .before .test2 .ensures);
     }
 
 pub head-lines-spec : {M : Type 1} → statement M
 head-lines-spec =
-    tie.close (tie.spec row-requires first-of-requires row-requires-2 first-of-requires-2 returns)
+    tie.close (tie.spec test-requires first-of-requires test-requires-2 first-of-requires-2 returns)

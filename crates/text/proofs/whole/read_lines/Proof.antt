@@ -1,7 +1,7 @@
--- `whole::read_lines` meets its contract: where a step is bad, or bytes are left after the last line, the walk over the text is stuck at that place; else it ends with the sheet that is told, whose first fault is the refusal and whose tables are the columns.
+-- `whole::read_lines` meets its contract: where a step is bad, or bytes are left after the last line, the walk over the text is stuck at that place; else it ends with the sheet that is told, whose first fault is the refusal and whose tables are the arrays.
 use mathlib.Core.Path.{refl, _∙_}
 use native.Mathlib.Omega.{arith}
-use Rattle.text.specs.laws.Texts.{read-stuck, rules-begin, wishes-begin, bytes-left, fault-told, tables-told}
+use Rattle.text.specs.laws.Texts.{read-stuck, rules-begin, wishes-begin, bytes-left, fault-told, accepted-told}
 use borrow.Author.Needs.{needs}
 use Rattle.text.proofs.whole.read_lines.Statement.{statement}
 use Rattle.text.proofs.whole.read_lines.Tie as tie
@@ -49,7 +49,7 @@ returns-5 : tie.Need-returns-5
 returns-5 c = c .refused .ensures ∙ fault-told _ _ _ _ _ _ _ (c .before .before .before .before .before .before .before .before .before .before .before .before .rule-lines .ensures .0 .good (c .before .before .before .before .before .before .before .before .before .before .before .if2 .left)) (c .before .before .before .before .before .before .before .before .before .before .before .before .rule-lines .ensures .1) _ _ _ _ (c .before .before .before .before .before .before .if3 .left) (c .before .before .before .before .before .before .before .wish-lines .ensures .0 _ (wishes-begin _ _ _ _ _ _ _ (c .before .before .before .before .before .before .before .before .before .before .before .before .rule-lines .ensures .0 .good (c .before .before .before .before .before .before .before .before .before .before .before .if2 .left)) (c .before .before .before .before .before .before .before .before .before .before .before .before .rule-lines .ensures .1)) .good (c .before .before .before .before .before .before .if3 .left)) (c .before .before .before .before .before .before .before .wish-lines .ensures .2) (c .before .before .before .before .before .before .before .wish-lines .ensures .1 (c .before .before .before .before .before .before .if3 .left)) (c .before .before .before .before .if4 .left) (c .before .if5 .taken)
 
 returns-6 : tie.Need-returns-6
-returns-6 c = tables-told _ _ _ _ _ _ _ (c .before .before .before .before .before .before .before .before .before .before .before .rule-lines .ensures .0 .good (c .before .before .before .before .before .before .before .before .before .before .if2 .left)) (c .before .before .before .before .before .before .before .before .before .before .before .rule-lines .ensures .1) _ _ _ _ (c .before .before .before .before .before .if3 .left) (c .before .before .before .before .before .before .wish-lines .ensures .0 _ (wishes-begin _ _ _ _ _ _ _ (c .before .before .before .before .before .before .before .before .before .before .before .rule-lines .ensures .0 .good (c .before .before .before .before .before .before .before .before .before .before .if2 .left)) (c .before .before .before .before .before .before .before .before .before .before .before .rule-lines .ensures .1)) .good (c .before .before .before .before .before .if3 .left)) (c .before .before .before .before .before .before .wish-lines .ensures .2) (c .before .before .before .before .before .before .wish-lines .ensures .1 (c .before .before .before .before .before .if3 .left)) (c .before .before .before .if4 .left) (c .if5 .left)
+returns-6 c = accepted-told _ _ _ _ _ _ _ (c .before .before .before .before .before .before .before .before .before .before .before .rule-lines .ensures .0 .good (c .before .before .before .before .before .before .before .before .before .before .if2 .left)) (c .before .before .before .before .before .before .before .before .before .before .before .rule-lines .ensures .1) _ _ _ _ (c .before .before .before .before .before .if3 .left) (c .before .before .before .before .before .before .wish-lines .ensures .0 _ (wishes-begin _ _ _ _ _ _ _ (c .before .before .before .before .before .before .before .before .before .before .before .rule-lines .ensures .0 .good (c .before .before .before .before .before .before .before .before .before .before .if2 .left)) (c .before .before .before .before .before .before .before .before .before .before .before .rule-lines .ensures .1)) .good (c .before .before .before .before .before .if3 .left)) (c .before .before .before .before .before .before .wish-lines .ensures .2) (c .before .before .before .before .before .before .wish-lines .ensures .1 (c .before .before .before .before .before .if3 .left)) (c .before .before .before .if4 .left) (c .if5 .left)
 
 pub read-lines-spec : {M : Type 1} → statement M
 read-lines-spec =

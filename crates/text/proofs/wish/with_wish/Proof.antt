@@ -5,11 +5,11 @@ use borrow.Author.Needs.{needs}
 use Rattle.text.proofs.wish.with_wish.Statement.{statement}
 use Rattle.text.proofs.wish.with_wish.Tie as tie
 
-row-requires : tie.Need-row-requires
-row-requires c κs = search needs
+test-requires : tie.Need-test-requires
+test-requires c κs = search needs
 
-row-requires-2 : tie.Need-row-requires-2
-row-requires-2 c κs = search needs
+test-requires-2 : tie.Need-test-requires-2
+test-requires-2 c κs = search needs
 
 cast-line : tie.Need-cast-line
 cast-line c = search needs
@@ -36,14 +36,14 @@ first-of-requires : tie.Need-first-of-requires
 first-of-requires c κs = search needs
 
 returns : tie.Need-returns
-returns c = record { good = refl; at = refl; gates = refl; rules = refl; wishes = refl; fault = λ rss rs h f e. c .first-of .ensures rss rs h (rw (c .before .before .before .before .row2 .ensures, c .before .before .before .before .before .row .ensures) f) (omega (arith, e)) }
+returns c = record { good = refl; at = refl; gates = refl; rules = refl; wishes = refl; fault = λ rss rs h f e. c .first-of .ensures rss rs h (rw (c .before .before .before .before .test2 .ensures, c .before .before .before .before .before .test .ensures) f) (omega (arith, e)) }
 
 pub with-wish-spec : {M : Type 1} → statement M
 with-wish-spec =
     tie.close
     (tie.spec
-    row-requires
-    row-requires-2
+    test-requires
+    test-requires-2
     cast-line
     cast-line-2
     add-line
