@@ -1,21 +1,23 @@
 -- What is claimed of reader and writer as a pair, over the tables that `sheet::read` returns. Assumes nothing.
 use Prim.Native.Nat.{ℕ, _≤_}
-use native.Mathlib.Omega.{arith}
 use mathlib.Core.List.{List}
-use mathlib.Core.Path.{_≡_, refl, sym, _∙_}
+use mathlib.Core.Path.{_≡_, refl, sym, ap, _∙_}
 use lib.ListN.{length, take}
 use Rattle.scope.specs.Sheet.{Sheet, fieldCount}
-use Rattle.scope.specs.Reading.{accepted, read}
+use Rattle.scope.specs.Causes.{accepted}
+use Rattle.scope.specs.Sheets.{SheetRead}
+use Rattle.scope.specs.Source.{Gives, Form}
 use Rattle.scope.specs.Jobs.{over}
 use Rattle.scope.specs.Tables.{Tables, Holds}
-use Rattle.scope.specs.Writing.{written, write}
-use Rattle.scope.specs.Claims.{sheet-source, written-read, read-written}
-use Rattle.sheet.specs.Tables.{filled, outcome, lent}
-use Rattle.sheet.specs.laws.Lent.{filled-holds}
+use Rattle.scope.specs.Writing.{WriteResult, written, IsWritten}
+use Rattle.scope.specs.Claims.{read-once, form-source, written-read, read-written}
+use Rattle.sheet.specs.declared.tables.Tables as made
+use Rattle.sheet.specs.Tables.{tables, acceptedTables, outcome, asTables}
+use Rattle.sheet.specs.laws.Accepted.{accepted-holds}
 use Rattle.sheet.specs.laws.Outcomes.{accepted-of}
 
 -- the same tables, up to their counts
-pub record Same (u v : Tables) : Type 0 where
+pub record SameTables (u v : Tables) : Type 0 where
   pub switches : u .switches ≡ v .switches
   pub faults : u .faults ≡ v .faults
   pub gates : u .gates ≡ v .gates
@@ -30,7 +32,7 @@ pub record Same (u v : Tables) : Type 0 where
   pub thirds : take (u .wishes) (u .third) ≡ take (v .wishes) (v .third)
 
 -- both hold one sheet
-hold-same : (u v : Tables) (t : Sheet) → Holds u t → Holds v t → Same u v
+hold-same : (u v : Tables) (t : Sheet) → Holds u t → Holds v t → SameTables u v
 hold-same u v t h i = record {
   switches = h .switches ∙ sym (i .switches);
   faults = h .faults ∙ sym (i .faults);
@@ -48,14 +50,16 @@ hold-same u v t h i = record {
 
 -- ---- the claims
 
--- reading a written sheet yields those tables, up to their counts
-pub tables-back : (u : Tables) (out : List ℕ) → write fieldCount u out .number ≡ 0 → Same u (lent (outcome (read fieldCount (take (write fieldCount u out .length) (write fieldCount u out .buffer)))))
-tables-back u out z =
-    let (t, h, e) = written-read fieldCount (omega arith) u out z in
-    rw e (hold-same u (lent (filled t)) t h (filled-holds t))
+-- reading a written sheet yields those tables, up to their counts, and accepts it; v is what `sheet::read` returns for it
+pub tables-back : (u : Tables) (out : List ℕ) (w : WriteResult) → IsWritten fieldCount u out w → w .number ≡ 0 → (v : made.Tables) → Gives (SheetRead fieldCount (take (w .length) (w .buffer))) outcome v → (v .number ≡ 0) × SameTables u (asTables v)
+unfolding tables
+tables-back u out w is z v g =
+    let (t, h, r) = written-read fieldCount u out w is z in
+    let e : v ≡ acceptedTables t = g .given ∙ ap outcome (read-once (Form.sheet (take (w .length) (w .buffer))) (g .read) (accepted t) (g .is-read) r) in
+    rw e (refl, hold-same u (asTables (acceptedTables t)) t h (accepted-holds t))
 
--- writing, with room, the tables of an accepted sheet yields that sheet, byte for byte
-pub sheet-back : (s out : List ℕ) → outcome (read fieldCount s) .number ≡ 0 → length s ≤ length out → write fieldCount (lent (outcome (read fieldCount s))) out ≡ written 0 0 0 (length s) (over s out)
-sheet-back s out z room =
-    let (t, e) = accepted-of (read fieldCount s) (sheet-source s) (outcome (read fieldCount s)) refl z in
-    rw e (read-written fieldCount (omega arith) s t e (lent (filled t)) (filled-holds t) out room)
+-- writing, with room, the tables of an accepted sheet yields that sheet, byte for byte; v is what `sheet::read` returned for it
+pub sheet-back : (s out : List ℕ) (v : made.Tables) → Gives (SheetRead fieldCount s) outcome v → v .number ≡ 0 → length s ≤ length out → IsWritten fieldCount (asTables v) out (written 0 0 0 (length s) (over s out))
+sheet-back s out v g z room =
+    let (t, e) = accepted-of (g .read) (form-source (Form.sheet s) (g .read) (g .is-read)) v (g .given) z in
+    rw (g .given, e) (read-written fieldCount s t (rw e at (g .is-read)) (asTables (acceptedTables t)) (accepted-holds t) out room)

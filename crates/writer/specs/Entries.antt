@@ -1,14 +1,14 @@
 -- The lines of lent tables as the code makes them: in no promise of an exported call. Assumes nothing.
-use Prim.Native.Nat.{ℕ, _+_, _-_, _≤_}
+use Prim.Native.Nat.{ℕ, _-_, _≤_}
 use mathlib.Core.Bool.{cond}
 use mathlib.Core.Logic.{_≢_}
 use mathlib.Core.Option.{some}
 use mathlib.Core.Path.{_≡_}
 use lib.Dec.{eqb, ltb}
 use Rattle.scope.specs.Sheet.{Line, Sheet, headLine, mostGates, mostRules, mostWishes}
-use Rattle.scope.specs.Reading.{Read, accepted, refused}
+use Rattle.scope.specs.Causes.{Read, accepted, refused}
 use Rattle.scope.specs.Tables.{Tables}
-use Rattle.scope.specs.Writing.{gateAt, ruleAt, wishAt}
+use Rattle.scope.specs.Checking.{gateAt, ruleAt, wishAt}
 use Rattle.sheet.specs.Lines.{lineFrom}
 use Rattle.sheet.specs.declared.line.Line as made
 use Rattle.sheet.specs.declared.tables.Counts.{Counts}

@@ -1,7 +1,7 @@
 -- A number's columns as the code fills them: in no promise of an exported call. Assumes nothing.
 use Prim.Native.Nat.{ℕ, zero, suc, _+_, _-_, _*_, _/_, _%_, _^_, _≤_, _<_}
 use Prim.Native.Char.{code}
-use native.Mathlib.Nat.{pow-suc, suc-mul}
+use native.Mathlib.Nat.{pow-suc}
 use native.Mathlib.Numerals.{add-one}
 use native.Mathlib.Omega.{arith}
 use mathlib.Core.Bool.{Bool, true, false, cond}
@@ -9,15 +9,17 @@ use mathlib.Core.List.{List, [], _∷_, _++_, append-assoc, append-nil}
 use mathlib.Core.Logic.{_≢_}
 use mathlib.Core.Path.{_≡_, refl, sym, ap, _∙_}
 use lib.Dec.{eqb, leb, ltb}
-use lib.ListN.{length, getD, take, replicate, length-append}
+use lib.ListN.{length, getD, take, replicate}
 use lib.Seq.{length-take-le, take-suc}
 use borrow.Author.Tests.{ne-eqb, leb-true, ltb-true}
 use Rattle.scope.specs.Sheet.{Number, number, plus, fieldSize, digit, decimal, signed, justified, field, fits, fieldsBytes}
 use Rattle.scope.specs.laws.Tests.{clash, both}
-use Rattle.scope.specs.Reading.{lineSize}
-use Rattle.scope.specs.laws.Steps.{all-take}
-use Rattle.scope.specs.laws.Fields.{length-snoc, by-digits, length-field}
-use Rattle.scope.specs.laws.Lines.{Fit}
+use Rattle.scope.specs.Causes.{lineSize}
+use Rattle.scope.specs.laws.Lists.{length-snoc}
+use Rattle.scope.specs.laws.Alls.{all-take}
+use Rattle.scope.specs.laws.Fields.{by-digits}
+use Rattle.scope.specs.laws.Digits.{spaces-snoc, signed-snoc}
+use Rattle.scope.specs.laws.Lines.{Fit, length-fields}
 use Rattle.writer.specs.Put.{put, put-next}
 
 -- what stands directly before the first digit
@@ -33,10 +35,6 @@ column n right s = cond (eqb n 0) (cond (eqb right 0) (code " ") s) (digit (n % 
 abbrev columns : ℕ → (n right sign : ℕ) → List ℕ
 columns zero n r s = []
 columns (suc w) n r s = columns w (n / 10) n s ++ column n r s ∷ []
-
-spaces-snoc : (w : ℕ) → replicate w (code " ") ++ code " " ∷ [] ≡ code " " ∷ replicate w (code " ")
-spaces-snoc zero = refl
-spaces-snoc (suc w) = ap (λ s. code " " ∷ s) (spaces-snoc w)
 
 -- no digit is left, and the sign is put
 blank : (w s : ℕ) → columns w 0 0 s ≡ replicate w (code " ")
@@ -55,15 +53,11 @@ justified-snoc w s b =
     let e : suc w - length (s ++ b ∷ []) ≡ w - length s = omega (arith, length-snoc s b) in
     ap (λ m. replicate m (code " ") ++ (s ++ b ∷ [])) e ∙ sym (append-assoc (replicate (w - length s) (code " ")) s (b ∷ []))
 
-signed-snoc : (m : Bool) (s : List ℕ) (b : ℕ) → signed m (s ++ b ∷ []) ≡ signed m s ++ b ∷ []
-signed-snoc true s b = refl
-signed-snoc false s b = refl
-
 -- one digit
-one-digit : (m : Bool) (w r d : ℕ) → r ≢ 0 → (m ≡ true → 1 ≤ w) → justified (suc w) (signed m (d ∷ [])) ≡ columns w 0 r (signOf m) ++ d ∷ []
-one-digit true zero r d h l = absurd (omega (arith, l refl))
-one-digit false zero r d h l = refl
-one-digit m (suc w) r d h l = go m ∙ ap (λ s. s ++ d ∷ []) (sym (sign-next w r (signOf m) h))
+digit-columns : (m : Bool) (w r d : ℕ) → r ≢ 0 → (m ≡ true → 1 ≤ w) → justified (suc w) (signed m (d ∷ [])) ≡ columns w 0 r (signOf m) ++ d ∷ []
+digit-columns true zero r d h l = absurd (omega (arith, l refl))
+digit-columns false zero r d h l = refl
+digit-columns m (suc w) r d h l = go m ∙ ap (λ s. s ++ d ∷ []) (sym (sign-next w r (signOf m) h))
   where
     go : (m : Bool) → justified (suc (suc w)) (signed m (d ∷ [])) ≡ replicate w (code " ") ++ signOf m ∷ [] ++ d ∷ []
     go true = ap (λ j. replicate j (code " ") ++ code "-" ∷ d ∷ []) (let e : suc (suc w) - 2 ≡ w = omega arith in e) ∙ sym (append-assoc (replicate w (code " ")) (code "-" ∷ []) (d ∷ []))
@@ -74,7 +68,7 @@ last-digit : (m : Bool) (w n r : ℕ) → r ≢ 0 → n < 10 → (m ≡ true →
 last-digit m w n r h d l =
     let e : n / 10 ≡ 0 = omega arith in
     let f : n % 10 ≡ n = omega arith in
-    rw (e, f) (one-digit m w r (digit n) h l)
+    rw (e, f) (digit-columns m w r (digit n) h l)
 
 -- digits from the right, then the sign, then spaces
 by-columns : (m : Bool) (w n r : ℕ) → r ≢ 0 → n < 10 ^ suc w → (m ≡ true → n < 10 ^ w) → (m ≡ true → 1 ≤ n) → justified (suc w) (signed m (decimal (suc w) n)) ≡ columns w (n / 10) r (signOf m) ++ digit (n % 10) ∷ []
@@ -86,7 +80,7 @@ by-columns m (suc w) n r h l k j = by-digits (λ s. justified (suc (suc w)) (sig
     let z : n / 10 ≢ 0 = λ e. omega arith in
     let more : justified (suc w) (signed m (decimal (suc w) (n / 10))) ≡ columns (suc w) (n / 10) r (signOf m) =
     by-columns m w (n / 10) (n / 10) z (omega (arith, pow-suc 10 (suc w))) (λ t. omega (arith, pow-suc 10 w, k t)) (λ t. omega arith) ∙ rw (ne-eqb (n / 10) 0 z) in
-    ap (justified (suc (suc w))) (signed-snoc m (decimal (suc w) (n / 10)) (digit (n % 10))) ∙ justified-snoc (suc w) (signed m (decimal (suc w) (n / 10))) (digit (n % 10)) ∙ ap (λ s. s ++ digit (n % 10) ∷ []) more)
+    ap (justified (suc (suc w))) (sym (signed-snoc m (decimal (suc w) (n / 10)) (digit (n % 10)))) ∙ justified-snoc (suc w) (signed m (decimal (suc w) (n / 10))) (digit (n % 10)) ∙ ap (λ s. s ++ digit (n % 10) ∷ []) more)
 
 pub field-columns : (x : Number) → fits x ≡ true → field x ≡ column (x .size / 10 / 10 / 10 / 10) (x .size / 10 / 10 / 10) (signOf (x .minus)) ∷ column (x .size / 10 / 10 / 10) (x .size / 10 / 10) (signOf (x .minus)) ∷ column (x .size / 10 / 10) (x .size / 10) (signOf (x .minus)) ∷ column (x .size / 10) 1 (signOf (x .minus)) ∷ digit (x .size % 10) ∷ []
 unfolding field
@@ -110,15 +104,13 @@ unfolding fieldsFront fieldsBytes
 front-line [] = refl
 front-line (x ∷ xs) = ap (λ s. field x ++ s) (front-line xs) ∙ sym (append-assoc (field x) (fieldsFront xs) (code "\n" ∷ []))
 
-pub front-snoc : (xs : List Number) (x : Number) → fieldsFront (xs ++ x ∷ []) ≡ fieldsFront xs ++ field x
+front-snoc : (xs : List Number) (x : Number) → fieldsFront (xs ++ x ∷ []) ≡ fieldsFront xs ++ field x
 unfolding fieldsFront
 front-snoc [] x = append-nil (field x)
 front-snoc (y ∷ xs) x = ap (λ s. field y ++ s) (front-snoc xs x) ∙ sym (append-assoc (field y) (fieldsFront xs) (field x))
 
 length-front : (xs : List Number) → Fit xs → length (fieldsFront xs) ≡ length xs * fieldSize
-unfolding fieldsFront
-length-front [] f = refl
-length-front (x ∷ xs) (p, f) = omega (arith, length-append (field x) (fieldsFront xs), length-field x p, length-front xs f, suc-mul (length xs) fieldSize)
+length-front xs f = omega (arith, length-fields xs f, ap length (front-line xs), length-snoc (fieldsFront xs) (code "\n"))
 
 -- ---- into a buffer
 

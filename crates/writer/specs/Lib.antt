@@ -1,5 +1,6 @@
 -- to believe
-pub mod Lent
+pub mod Returned
+-- what is claimed of reader and writer
 pub mod Claims
 -- steps of the code, which no promise of an exported call names
 pub mod Put

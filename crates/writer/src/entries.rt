@@ -1,18 +1,18 @@
-// The lines that lent tables would stand on, one by one. A word that its column does not hold, and a gate of no kind, stand as -0,
+// The lines that lent tables would stand on, one by one. A word that its array does not hold, and a gate of no kind, stand as -0,
 // which no test takes.
 ghost use mathlib.Core.List.{[], _∷_};
 ghost use mathlib.Core.Path.{_≡_};
 ghost use mathlib.Core.Option.{some};
-ghost use Prim.Native.Nat.{_+_, _<_};
+ghost use Prim.Native.Nat.{_<_};
 ghost use lib.ListN.{getD};
 ghost use Rattle.scope.specs.Sheet as scope;
 ghost use Rattle.scope.specs.Sheet.{plus, filled, headLine, endLine};
-ghost use Rattle.scope.specs.Writing as writing;
+ghost use Rattle.scope.specs.Checking as checking;
 ghost use Rattle.scope.specs.Tables.{literalFrom};
-ghost use Rattle.scope.specs.Writing.{kindLine};
+ghost use Rattle.scope.specs.Checking.{kindLine};
 ghost use Rattle.sheet.specs.Columns.{numberFrom};
 ghost use Rattle.sheet.specs.Lines.{letterFrom};
-ghost use Rattle.writer.specs.Lent.{lent};
+ghost use Rattle.sheet.specs.Tables.{lentTables};
 ghost use Rattle.writer.specs.Entries.{Is, lineAt};
 use crate::line::plain;
 use sheet::AND;
@@ -24,11 +24,11 @@ use sheet::line::Line;
 use sheet::line::MOST_FIELDS;
 use sheet::tables::Counts;
 
-// the kind of a gate that its column does not hold
+// the kind of a gate that its array does not hold
 const NO_KIND: u8 = 0;
 
 fn nowhere() -> Number
-    ensures { λ r. ⌜ numberFrom r ≡ writing.nowhere ⌝ }
+    ensures { λ r. ⌜ numberFrom r ≡ checking.nowhere ⌝ }
 {
     Number {
         minus: true,
@@ -36,12 +36,12 @@ fn nowhere() -> Number
     }
 }
 
-// Word i of a column.
-fn word(column: &[u32], i: usize) -> Number
-    ensures { λ r. ⌜ numberFrom r ≡ writing.word plus (now (column .entry)) i ⌝ }
+// Word i of an array.
+fn word(words: &[u32], i: usize) -> Number
+    ensures { λ r. ⌜ numberFrom r ≡ checking.word plus (now (words .entry)) i ⌝ }
 {
-    if i < column.len() {
-        return plain(column[i]);
+    if i < words.len() {
+        return plain(words[i]);
     }
     nowhere()
 }
@@ -56,12 +56,12 @@ fn literal(code: u32) -> Number
     }
 }
 
-// Word i of a column as a literal.
-fn literal_word(column: &[u32], i: usize) -> Number
-    ensures { λ r. ⌜ numberFrom r ≡ writing.word literalFrom (now (column .entry)) i ⌝ }
+// Word i of an array as a literal.
+fn literal_word(words: &[u32], i: usize) -> Number
+    ensures { λ r. ⌜ numberFrom r ≡ checking.word literalFrom (now (words .entry)) i ⌝ }
 {
-    if i < column.len() {
-        return literal(column[i]);
+    if i < words.len() {
+        return literal(words[i]);
     }
     nowhere()
 }
@@ -108,19 +108,19 @@ fn kind_line(kind: u8, x: Number, y: Number) -> Line
 }
 
 fn gate_line(kind: &[u8], left: &[u32], right: &[u32], i: usize) -> Line
-    ensures { λ r. ⌜ Is r (λ n. kindLine n (getD (now (kind .entry)) i 0) (writing.word plus (now (left .entry)) i) (writing.word plus (now (right .entry)) i)) ⌝ }
+    ensures { λ r. ⌜ Is r (λ n. kindLine n (getD (now (kind .entry)) i 0) (checking.word plus (now (left .entry)) i) (checking.word plus (now (right .entry)) i)) ⌝ }
 {
     kind_line(kind_at(kind, i), word(left, i), word(right, i))
 }
 
 fn rule_line(rule: &[u32], i: usize) -> Line
-    ensures { λ r. ⌜ Is r (λ n. scope.line scope.R (filled n (writing.word plus (now (rule .entry)) i ∷ []))) ⌝ }
+    ensures { λ r. ⌜ Is r (λ n. scope.line scope.R (filled n (checking.word plus (now (rule .entry)) i ∷ []))) ⌝ }
 {
     line_with(Letter::Rule, word(rule, i), plain(0), plain(0))
 }
 
 fn wish_line(first: &[u32], second: &[u32], third: &[u32], i: usize) -> Line
-    ensures { λ r. ⌜ Is r (λ n. scope.line scope.W (filled n (writing.word literalFrom (now (first .entry)) i ∷ writing.word literalFrom (now (second .entry)) i ∷ writing.word literalFrom (now (third .entry)) i ∷ []))) ⌝ }
+    ensures { λ r. ⌜ Is r (λ n. scope.line scope.W (filled n (checking.word literalFrom (now (first .entry)) i ∷ checking.word literalFrom (now (second .entry)) i ∷ checking.word literalFrom (now (third .entry)) i ∷ []))) ⌝ }
 {
     line_with(
         Letter::Wish,
@@ -142,7 +142,7 @@ pub fn line_of(
     c: Counts,
     k: usize,
 ) -> Line
-    ensures { λ r. ⌜ Is r (λ n. lineAt n (lent c (now (kind .entry)) (now (left .entry)) (now (right .entry)) (now (rule .entry)) (now (first .entry)) (now (second .entry)) (now (third .entry))) k) ⌝ }
+    ensures { λ r. ⌜ Is r (λ n. lineAt n (lentTables c (now (kind .entry)) (now (left .entry)) (now (right .entry)) (now (rule .entry)) (now (first .entry)) (now (second .entry)) (now (third .entry))) k) ⌝ }
 {
     if k == 0 {
         return head_line(c.switches, c.faults);

@@ -5,7 +5,7 @@ ghost use mathlib.Core.Bool.{true};
 ghost use Prim.Native.Nat.{_+_, _*_, _%_, _≤_, _<_};
 ghost use lib.ListN.{length};
 ghost use Rattle.scope.specs.Sheet.{plus, fieldSize, digit, field, fits, fieldsBytes};
-ghost use Rattle.scope.specs.Reading.{lineSize};
+ghost use Rattle.scope.specs.Causes.{lineSize};
 ghost use Rattle.scope.specs.laws.Lines.{Fit};
 ghost use Rattle.sheet.specs.Columns.{numberFrom};
 ghost use Rattle.sheet.specs.Lines.{numbersFrom};

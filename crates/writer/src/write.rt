@@ -7,13 +7,15 @@ ghost use Prim.Native.Nat.{ℕ, _+_, _*_, _≤_};
 ghost use lib.ListN.{length};
 ghost use Rattle.scope.specs.Sheet as scope;
 ghost use Rattle.scope.specs.Sheet.{Sheet, letterByte, lineBytes, text, fieldCount, All};
-ghost use Rattle.scope.specs.Reading.{add, lineSize};
-ghost use Rattle.scope.specs.Writing as writing;
-ghost use Rattle.scope.specs.Writing.{tableLines, readTables};
+ghost use Rattle.scope.specs.Causes.{lineSize};
+ghost use Rattle.scope.specs.Reading.{add};
+ghost use Rattle.scope.specs.Writing.{written, writtenOf, IsWritten};
+ghost use Rattle.scope.specs.Checking.{tableLines, readTables};
 ghost use Rattle.scope.specs.laws.Inverse.{Good};
 ghost use Rattle.sheet.specs.Lines.{letterFrom, lineFrom};
 ghost use Rattle.sheet.specs.Steps.{Counted};
-ghost use Rattle.writer.specs.Lent.{lent, writtenFrom};
+ghost use Rattle.sheet.specs.Tables.{lentTables};
+ghost use Rattle.writer.specs.Returned.{writtenFrom};
 ghost use Rattle.writer.specs.Put.{put};
 ghost use Rattle.writer.specs.Entries.{Small, Judged};
 use crate::entries::end_line;
@@ -35,7 +37,7 @@ const TOO_SHORT: u32 = 13;
 const NO_LETTER: u8 = 0;
 
 // The length is 0 on refusal.
-pub struct Written {
+pub struct WriteResult {
     // 0, or the number of the refusal
     pub number: u32,
     pub place: usize,
@@ -97,7 +99,7 @@ fn first_fault(
     n: usize,
 ) -> Verdict
     requires { ⌜ (3 ≤ n) × (n ≤ 4) ⌝ }
-    ensures { λ r. ⌜ Judged (readTables n (lent all (now (kind .entry)) (now (left .entry)) (now (right .entry)) (now (rule .entry)) (now (first .entry)) (now (second .entry)) (now (third .entry)))) (r .number) (r .place) ⌝ }
+    ensures { λ r. ⌜ Judged (readTables n (lentTables all (now (kind .entry)) (now (left .entry)) (now (right .entry)) (now (rule .entry)) (now (first .entry)) (now (second .entry)) (now (third .entry)))) (r .number) (r .place) ⌝ }
 {
     let count = line_count(all);
     let mut c = Counts {
@@ -165,8 +167,8 @@ fn put_lines(
     n: usize,
     size: usize,
 )
-    requires { ⌜ (3 ≤ n) × (n ≤ 4) × (size ≡ lineSize n) × All (Good n) (tableLines n (lent all (now kind) (now left) (now right) (now rule) (now first) (now second) (now third))) × ((1 + all .gates + all .rules + all .wishes) * size ≤ length (now out)) ⌝ }
-    ensures { λ _. ⌜ now (out .exit) ≡ put (now (out .entry)) 0 (text (tableLines n (lent all (now (kind .entry)) (now (left .entry)) (now (right .entry)) (now (rule .entry)) (now (first .entry)) (now (second .entry)) (now (third .entry))))) ⌝ }
+    requires { ⌜ (3 ≤ n) × (n ≤ 4) × (size ≡ lineSize n) × All (Good n) (tableLines n (lentTables all (now kind) (now left) (now right) (now rule) (now first) (now second) (now third))) × ((1 + all .gates + all .rules + all .wishes) * size ≤ length (now out)) ⌝ }
+    ensures { λ _. ⌜ now (out .exit) ≡ put (now (out .entry)) 0 (text (tableLines n (lentTables all (now (kind .entry)) (now (left .entry)) (now (right .entry)) (now (rule .entry)) (now (first .entry)) (now (second .entry)) (now (third .entry))))) ⌝ }
 {
     let count = line_count(all);
     let mut k = 0;
@@ -177,10 +179,10 @@ fn put_lines(
     }
 }
 
-fn refused(number: u32, place: usize) -> Written
-    ensures { λ r. ⌜ ((out : List ℕ) → writtenFrom r out ≡ writing.written number place 0 0 out) ⌝ }
+fn refused(number: u32, place: usize) -> WriteResult
+    ensures { λ r. ⌜ ((out : List ℕ) → writtenFrom r out ≡ written number place 0 0 out) ⌝ }
 {
-    Written {
+    WriteResult {
         number,
         place,
         column: 0,
@@ -200,9 +202,9 @@ fn write_form(
     all: Counts,
     n: usize,
     out: &mut [u8],
-) -> Written
+) -> WriteResult
     requires { ⌜ (3 ≤ n) × (n ≤ 4) ⌝ }
-    ensures { λ r. ⌜ writtenFrom r (now (out .exit)) ≡ writing.write n (lent all (now (kind .entry)) (now (left .entry)) (now (right .entry)) (now (rule .entry)) (now (first .entry)) (now (second .entry)) (now (third .entry))) (now (out .entry)) ⌝ }
+    ensures { λ r. ⌜ writtenFrom r (now (out .exit)) ≡ writtenOf n (readTables n (lentTables all (now (kind .entry)) (now (left .entry)) (now (right .entry)) (now (rule .entry)) (now (first .entry)) (now (second .entry)) (now (third .entry)))) (now (out .entry)) ⌝ }
 {
     let v = first_fault(kind, left, right, rule, first, second, third, all, n);
     if v.number != 0 {
@@ -228,7 +230,7 @@ fn write_form(
         size,
     );
     put_sheet_line(out, count * size, end_line(narrow(count)), n);
-    Written {
+    WriteResult {
         number: 0,
         place: 0,
         column: 0,
@@ -248,8 +250,8 @@ pub fn write(
     third: &[u32],
     counts: Counts,
     out: &mut [u8],
-) -> Written
-    ensures { λ r. ⌜ writtenFrom r (now (out .exit)) ≡ writing.write fieldCount (lent counts (now (kind .entry)) (now (left .entry)) (now (right .entry)) (now (rule .entry)) (now (first .entry)) (now (second .entry)) (now (third .entry))) (now (out .entry)) ⌝ }
+) -> WriteResult
+    ensures { λ r. ⌜ IsWritten fieldCount (lentTables counts (now (kind .entry)) (now (left .entry)) (now (right .entry)) (now (rule .entry)) (now (first .entry)) (now (second .entry)) (now (third .entry))) (now (out .entry)) (writtenFrom r (now (out .exit))) ⌝ }
 {
     write_form(
         kind,

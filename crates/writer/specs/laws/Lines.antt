@@ -13,7 +13,8 @@ use borrow.Author.Tests.{ne-eqb, le-ltb, lt-ltb}
 use Rattle.scope.specs.Sheet.{Number, plus, Letter, Line, line, filled}
 use Rattle.scope.specs.Reading.{when, joined, formed}
 use Rattle.scope.specs.Tables.{Tables}
-use Rattle.scope.specs.Writing.{entries, gateAt, ruleAt, wishAt, tableLines}
+use Rattle.scope.specs.Writing.{entries}
+use Rattle.scope.specs.Checking.{gateAt, ruleAt, wishAt, tableLines}
 use Rattle.scope.specs.laws.Tests.{clash}
 use Rattle.scope.specs.laws.Writing.{length-entries}
 use Rattle.scope.specs.laws.Held.{entry-at}

@@ -10,12 +10,13 @@ use lib.ListN.{length, take, drop}
 use lib.Seq.{length-take-le, take-suc}
 use borrow.Author.Tests.{le-leb, lt-leb}
 use Rattle.scope.specs.Sheet.{Sheet, Letter, Line, H, line, lineBytes, letterByte, fieldsBytes, text, endLine, sheetBytes, All}
-use Rattle.scope.specs.Reading.{accepted, refused, lineSize, mostBytes}
+use Rattle.scope.specs.Causes.{accepted, refused, lineSize, mostBytes}
 use Rattle.scope.specs.Jobs.{over}
 use Rattle.scope.specs.Tables.{Tables}
-use Rattle.scope.specs.Writing.{tableLines, readTables, written, write}
+use Rattle.scope.specs.Writing.{written, writtenOf}
+use Rattle.scope.specs.Checking.{tableLines, readTables}
 use Rattle.scope.specs.laws.Lines.{Fit}
-use Rattle.scope.specs.laws.Steps.{all-take, all-at}
+use Rattle.scope.specs.laws.Alls.{all-take, all-at}
 use Rattle.scope.specs.laws.Inverse.{Good, length-text, text-snoc}
 use Rattle.scope.specs.laws.Writing.{length-lines, lines-good, sheet-text, sheet-size, few-lines}
 use Rattle.sheet.specs.Lines.{letterFrom, numbersFrom, lineFrom}
@@ -70,8 +71,7 @@ unfolding put
 at-front out s = ap (λ j. s ++ drop j out) (zero-add (length s))
 
 module _ (n : ℕ) (wide : 3 ≤ n) (u : Tables) where
-  pub told : (number place : ℕ) (out : List ℕ) → readTables n u ≡ refused number place 0 → written number place 0 0 out ≡ write n u out
-  unfolding write
+  pub told : (number place : ℕ) (out : List ℕ) → readTables n u ≡ refused number place 0 → written number place 0 0 out ≡ writtenOf n (readTables n u) out
   told number place out e = rw e
 
   module _ (t : Sheet) (e : readTables n u ≡ accepted t) (count size : ℕ) (out : List ℕ) (c : count ≡ 1 + u .gates + u .rules + u .wishes) (z : size ≡ lineSize n) where
@@ -84,12 +84,10 @@ module _ (n : ℕ) (wide : 3 ≤ n) (u : Tables) where
     needed : length (sheetBytes n t) ≡ need
     needed = sheet-size n wide u t e ∙ sym (ap₂ (λ a b. (a + 1) * b) lines z)
 
-    pub too-short : length out < need → written 13 0 0 0 out ≡ write n u out
-    unfolding write
+    pub too-short : length out < need → written 13 0 0 0 out ≡ writtenOf n (readTables n u) out
     too-short h = rw (e, needed, lt-leb need (length out) h)
 
-    pub whole : (middle now : List ℕ) → need ≤ length out → middle ≡ put out 0 (text (tableLines n u)) → now ≡ put middle (count * size) (lineBytes (endLine n count)) → written 0 0 0 need now ≡ write n u out
-    unfolding write
+    pub whole : (middle now : List ℕ) → need ≤ length out → middle ≡ put out 0 (text (tableLines n u)) → now ≡ put middle (count * size) (lineBytes (endLine n count)) → written 0 0 0 need now ≡ writtenOf n (readTables n u) out
     whole middle now h p q =
         let ls : List Line = tableLines n u in
         let k : length (text ls) ≡ count * size = length-text n ls (lines-good n wide u t e) ∙ ap₂ (λ a b. a * b) (sym lines) (sym z) in

@@ -1,3 +1,5 @@
+-- `entries::end_line` meets its contract: it is the line with this number and zeros.
+-- Assumes nothing.
 use borrow.Author.Needs.{needs}
 use mathlib.Core.Path.{refl}
 use Rattle.scope.specs.Sheet.{Z}

@@ -1,3 +1,5 @@
+-- `entries::gate_line` meets its contract: it is the line of its kind with these words.
+-- Assumes nothing.
 use borrow.Author.Needs.{needs}
 use Rattle.writer.proofs.entries.gate_line.Statement.{statement}
 use Rattle.writer.proofs.entries.gate_line.Tie as tie

@@ -1,3 +1,5 @@
+-- `entries::head_line` meets its contract: it is the line with these numbers and zeros.
+-- Assumes nothing.
 use borrow.Author.Needs.{needs}
 use mathlib.Core.Path.{refl}
 use Rattle.scope.specs.Sheet.{H}

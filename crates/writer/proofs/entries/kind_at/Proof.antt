@@ -1,3 +1,5 @@
+-- `entries::kind_at` meets its contract: by whether the array holds the byte.
+-- Assumes nothing.
 use borrow.Author.Needs.{needs}
 use mathlib.Core.Path.{sym}
 use lib.ListN.{List·getD-eq-default}

@@ -1,3 +1,5 @@
+-- `entries::kind_line` meets its contract: by the kind, in the order in which the definition asks.
+-- Assumes nothing.
 use borrow.Author.Needs.{needs}
 use mathlib.Core.Path.{refl}
 use borrow.Author.Tests.{ne-eqb}

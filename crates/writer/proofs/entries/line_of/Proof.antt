@@ -1,3 +1,5 @@
+-- `entries::line_of` meets its contract: by which part of the tables line k falls into.
+-- Assumes nothing.
 use borrow.Author.Needs.{needs}
 use borrow.Author.Tests.{eq-eqb, ne-eqb, le-ltb, lt-ltb}
 use Rattle.writer.specs.Entries.{lineAt}

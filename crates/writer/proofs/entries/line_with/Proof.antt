@@ -1,3 +1,5 @@
+-- `entries::line_with` meets its contract: the first n of four numbers are these three, and zeros.
+-- Assumes nothing.
 use borrow.Author.Needs.{needs}
 use Rattle.writer.specs.laws.Lines.{made-line}
 use Rattle.writer.proofs.entries.line_with.Statement.{statement}

@@ -1,3 +1,5 @@
+-- `entries::wish_line` meets its contract: it is the line with these three numbers.
+-- Assumes nothing.
 use borrow.Author.Needs.{needs}
 use mathlib.Core.Path.{refl}
 use Rattle.scope.specs.Sheet.{W}

@@ -1,3 +1,5 @@
+-- `line::column` meets its contract: by the digits up to this column and to the next.
+-- Assumes nothing.
 use borrow.Author.Needs.{needs}
 use borrow.Author.Tests.{eq-eqb, ne-eqb}
 use Rattle.writer.specs.Fields.{column}

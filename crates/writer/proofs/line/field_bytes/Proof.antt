@@ -1,3 +1,5 @@
+-- `line::field_bytes` meets its contract: a number that fits is its five columns, each from the digits up to it.
+-- Assumes nothing.
 use borrow.Author.Needs.{needs}
 use Rattle.sheet.specs.Columns.{numberFrom}
 use Rattle.writer.specs.Fields.{field-columns}

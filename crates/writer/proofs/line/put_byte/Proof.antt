@@ -1,3 +1,5 @@
+-- `line::put_byte` meets its contract: setting a byte is putting it there.
+-- Assumes nothing.
 use borrow.Author.Needs.{needs}
 use Rattle.writer.specs.Put.{put-byte}
 use Rattle.writer.proofs.line.put_byte.Statement.{statement}

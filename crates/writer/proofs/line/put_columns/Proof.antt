@@ -1,3 +1,5 @@
+-- `line::put_columns` meets its contract: the first j bytes stand from `at` on, and each turn puts the next one behind them.
+-- Assumes nothing.
 use Prim.Native.Nat.{_≤_, _-_}
 use mathlib.Core.Path.{_≡_, ap, _∙_}
 use native.Mathlib.Numerals.{add-one}

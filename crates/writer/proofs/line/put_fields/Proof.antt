@@ -1,3 +1,5 @@
+-- `line::put_fields` meets its contract: the first i numbers stand from `at` on, and each turn puts the next one behind them.
+-- Assumes nothing.
 use Prim.Native.Nat.{_-_, _≤_}
 use native.Mathlib.Omega.{arith}
 use mathlib.Core.Path.{_≡_, refl, sym, ap, subst, _∙_}
@@ -6,7 +8,7 @@ use lib.Seq.{take-all}
 use borrow.Author.Needs.{needs}
 use mathlib.Core.Bool.{true}
 use Rattle.scope.specs.Sheet.{plus, fits}
-use Rattle.scope.specs.laws.Steps.{all-at}
+use Rattle.scope.specs.laws.Alls.{all-at}
 use Rattle.sheet.specs.Lines.{numbersFrom}
 use Rattle.sheet.specs.laws.Numbers.{length-numbers}
 use Rattle.writer.specs.Put.{put, put-nothing}

@@ -1,3 +1,5 @@
+-- `line::put_line` meets its contract: letter, numbers and line feed are put one behind the other.
+-- Assumes nothing.
 use native.Mathlib.Omega.{arith}
 use mathlib.Core.Path.{_≡_}
 use lib.ListN.{length}

@@ -1,6 +1,8 @@
+-- `write::counted` meets its contract: by the letter; the counts after a line are those of the sheet with it.
+-- Assumes nothing.
 use borrow.Author.Needs.{needs}
 use mathlib.Core.Path.{refl, ap, _∙_}
-use Rattle.scope.specs.Reading.{at, make}
+use Rattle.scope.specs.Causes.{at, make}
 use Rattle.sheet.specs.Lines.{letterFrom}
 use Rattle.writer.specs.laws.Lines.{line-parts, letter-is, no-line}
 use Rattle.writer.proofs.write.counted.Statement.{statement}

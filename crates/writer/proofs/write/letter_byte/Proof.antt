@@ -1,3 +1,5 @@
+-- `write::letter_byte` meets its contract: by the letter, each with its own byte.
+-- Assumes nothing.
 use borrow.Author.Needs.{needs}
 use mathlib.Core.Option.{Option·some-injective}
 use mathlib.Core.Path.{refl, sym, ap, _∙_}

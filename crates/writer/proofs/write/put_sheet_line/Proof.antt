@@ -1,3 +1,5 @@
+-- `write::put_sheet_line` meets its contract: the line's letter and numbers are those of the line that it stands for.
+-- Assumes nothing.
 use borrow.Author.Needs.{needs}
 use mathlib.Core.Path.{ap, _∙_}
 use Rattle.writer.specs.Put.{put}

@@ -1,11 +1,14 @@
+-- `write::write_form` meets its contract: tables at fault are told; otherwise they hold a valid sheet, as long as its lines, so 13 is told by that length, or its lines and then Z are put.
+-- Assumes nothing.
 use Prim.Native.Nat.{_+_, _*_, _≤_}
 use native.Mathlib.Omega.{arith}
 use mathlib.Core.Path.{_≡_, subst, _∙_}
 use lib.ListN.{length}
 use borrow.Author.Needs.{needs}
 use Rattle.scope.specs.Sheet.{endLine}
-use Rattle.scope.specs.laws.Writing.{lines-good, end-good}
-use Rattle.writer.specs.Lent.{lent}
+use Rattle.scope.specs.laws.Inverse.{end-good}
+use Rattle.scope.specs.laws.Writing.{lines-good}
+use Rattle.sheet.specs.Tables.{lentTables}
 use Rattle.writer.specs.laws.Printed.{line-room, few, need-fits, told, too-short, whole}
 use Rattle.writer.proofs.write.write_form.Statement.{statement}
 use Rattle.writer.proofs.write.write_form.Tie as tie
@@ -20,7 +23,7 @@ returns : tie.Need-returns
 returns c =
     let s = c .before .before .before .before .before .before .before .before .before .before .before .before in
     let a = s .args in
-    let u = lent (a .all) (a .kind .now) (a .left .now) (a .right .now) (a .rule .now) (a .first .now) (a .second .now) (a .third .now) in
+    let u = lentTables (a .all) (a .kind .now) (a .left .now) (a .right .now) (a .rule .now) (a .first .now) (a .second .now) (a .third .now) in
     c .refused .ensures (a .out .now) ∙ told (a .n) (s .pre .0) u _ _ (a .out .now) (c .before .before .before .first-fault .ensures .fault (c .before .if1 .taken))
 
 line-size-requires : tie.Need-line-size-requires
@@ -33,7 +36,7 @@ add-need : tie.Need-add-need
 add-need c =
     let s = c .before .before .before .before .before .before .before .before .before .before .before .before .before in
     let a = s .args in
-    let u = lent (a .all) (a .kind .now) (a .left .now) (a .right .now) (a .rule .now) (a .first .now) (a .second .now) (a .third .now) in
+    let u = lentTables (a .all) (a .kind .now) (a .left .now) (a .right .now) (a .rule .now) (a .first .now) (a .second .now) (a .third .now) in
     let (t, e) = c .before .before .before .before .first-fault .ensures .valid (c .before .before .if1 .left) in
     let k = c .line-count in
     let z = c .before .line-size in
@@ -44,7 +47,7 @@ mul-need : tie.Need-mul-need
 mul-need c =
     let s = c .before .before .before .before .before .before .before .before .before .before .before .before .before in
     let a = s .args in
-    let u = lent (a .all) (a .kind .now) (a .left .now) (a .right .now) (a .rule .now) (a .first .now) (a .second .now) (a .third .now) in
+    let u = lentTables (a .all) (a .kind .now) (a .left .now) (a .right .now) (a .rule .now) (a .first .now) (a .second .now) (a .third .now) in
     let (t, e) = c .before .before .before .before .first-fault .ensures .valid (c .before .before .if1 .left) in
     let k = c .line-count in
     let z = c .before .line-size in
@@ -58,7 +61,7 @@ returns-2 : tie.Need-returns-2
 returns-2 c =
     let s = c .before .before .before .before .before .before .before .before .before .before .before .before .before .before .before in
     let a = s .args in
-    let u = lent (a .all) (a .kind .now) (a .left .now) (a .right .now) (a .rule .now) (a .first .now) (a .second .now) (a .third .now) in
+    let u = lentTables (a .all) (a .kind .now) (a .left .now) (a .right .now) (a .rule .now) (a .first .now) (a .second .now) (a .third .now) in
     let (t, e) = c .before .before .before .before .before .before .first-fault .ensures .valid (c .before .before .before .before .if1 .left) in
     let k = c .before .before .line-count in
     let z = c .before .before .before .line-size in
@@ -68,7 +71,7 @@ put-lines-requires : tie.Need-put-lines-requires
 put-lines-requires c κs =
     let s = c .before .before .before .before .before .before .before .before .before .before .before .before .before .before .before in
     let a = s .args in
-    let u = lent (a .all) (a .kind .now) (a .left .now) (a .right .now) (a .rule .now) (a .first .now) (a .second .now) (a .third .now) in
+    let u = lentTables (a .all) (a .kind .now) (a .left .now) (a .right .now) (a .rule .now) (a .first .now) (a .second .now) (a .third .now) in
     let (t, e) = c .before .before .before .before .before .before .first-fault .ensures .valid (c .before .before .before .before .if1 .left) in
     let k = c .before .before .line-count in
     let z = c .before .before .before .line-size in
@@ -79,7 +82,7 @@ mul-put-sheet-line : tie.Need-mul-put-sheet-line
 mul-put-sheet-line c =
     let s = c .before .before .before .before .before .before .before .before .before .before .before .before .before .before .before .before .before .before .before in
     let a = s .args in
-    let u = lent (a .all) (a .kind .now) (a .left .now) (a .right .now) (a .rule .now) (a .first .now) (a .second .now) (a .third .now) in
+    let u = lentTables (a .all) (a .kind .now) (a .left .now) (a .right .now) (a .rule .now) (a .first .now) (a .second .now) (a .third .now) in
     let (t, e) = c .before .before .before .before .before .before .before .before .before .before .first-fault .ensures .valid (c .before .before .before .before .before .before .before .before .if1 .left) in
     let k = c .before .before .before .before .before .before .line-count in
     let z = c .before .before .before .before .before .before .before .line-size in
@@ -90,7 +93,7 @@ narrow-requires : tie.Need-narrow-requires
 narrow-requires c κs =
     let s = c .before .before .before .before .before .before .before .before .before .before .before .before .before .before .before .before .before .before .before in
     let a = s .args in
-    let u = lent (a .all) (a .kind .now) (a .left .now) (a .right .now) (a .rule .now) (a .first .now) (a .second .now) (a .third .now) in
+    let u = lentTables (a .all) (a .kind .now) (a .left .now) (a .right .now) (a .rule .now) (a .first .now) (a .second .now) (a .third .now) in
     let (t, e) = c .before .before .before .before .before .before .before .before .before .before .first-fault .ensures .valid (c .before .before .before .before .before .before .before .before .if1 .left) in
     let k = c .before .before .before .before .before .before .line-count in
     let z = c .before .before .before .before .before .before .before .line-size in
@@ -104,7 +107,7 @@ put-sheet-line-requires : tie.Need-put-sheet-line-requires
 put-sheet-line-requires c κs =
     let s = c .before .before .before .before .before .before .before .before .before .before .before .before .before .before .before .before .before .before .before .before .before in
     let a = s .args in
-    let u = lent (a .all) (a .kind .now) (a .left .now) (a .right .now) (a .rule .now) (a .first .now) (a .second .now) (a .third .now) in
+    let u = lentTables (a .all) (a .kind .now) (a .left .now) (a .right .now) (a .rule .now) (a .first .now) (a .second .now) (a .third .now) in
     let (t, e) = c .before .before .before .before .before .before .before .before .before .before .before .before .first-fault .ensures .valid (c .before .before .before .before .before .before .before .before .before .before .if1 .left) in
     let k = c .before .before .before .before .before .before .before .before .line-count in
     let z = c .before .before .before .before .before .before .before .before .before .line-size in
@@ -120,7 +123,7 @@ returns-3 : tie.Need-returns-3
 returns-3 c =
     let s = c .before .before .before .before .before .before .before .before .before .before .before .before .before .before .before .before .before .before .before .before .before .before .before .before in
     let a = s .args in
-    let u = lent (a .all) (a .kind .now) (a .left .now) (a .right .now) (a .rule .now) (a .first .now) (a .second .now) (a .third .now) in
+    let u = lentTables (a .all) (a .kind .now) (a .left .now) (a .right .now) (a .rule .now) (a .first .now) (a .second .now) (a .third .now) in
     let (t, e) = c .before .before .before .before .before .before .before .before .before .before .before .before .before .before .before .first-fault .ensures .valid (c .before .before .before .before .before .before .before .before .before .before .before .before .before .if1 .left) in
     let k = c .before .before .before .before .before .before .before .before .before .before .before .line-count in
     let z = c .before .before .before .before .before .before .before .before .before .before .before .before .line-size in
