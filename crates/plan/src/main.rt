@@ -1,6 +1,7 @@
-// The program: answers the planning sheet on standard input and prints the listing. What it prints is
-// proved up to the two calls of the operating system: `print_listing` gives it byte for byte.
-use planner::print::print_listing;
+// The program: answers the planning sheet on standard input and prints the listing. That `print_listing` gives
+// the listing of the bytes that it is handed, byte for byte, is proved; that this function hands on what was
+// read, and writes what it gave, is tested.
+use planner::sheets::print_listing;
 
 // One byte more than a sheet may have, so that a longer one is told.
 const INPUT: usize = 9011;

@@ -1,11 +1,17 @@
--- The figures that the jobs return, as the scope names them. Assumes nothing.
+-- The figures that the jobs return, as the scope names them, and those of each case of an enum. Assumes nothing.
 use Prim.Native.Nat.{ℕ}
+use mathlib.Core.Bool.{cond}
 use mathlib.Core.List.{List, [], _∷_}
-use Rattle.scope.specs.Jobs.{Result, Answer, answered}
+use Rattle.scope.specs.Jobs.{Result, refusal, found, Answer, answered}
 use Rattle.scope.specs.Jobs as jobs
 use Rattle.scope.specs.Program.{one}
+use Rattle.circuit.specs.Lent.{missedOf}
+use Rattle.circuit.specs.declared.rule.Missed.{Missed}
+use Rattle.search.specs.declared.best.Best.{Best}
+use Rattle.search.specs.declared.best.Best.the-variants.{Nothing, At}
+use Rattle.search.specs.declared.run.Run.{Run}
 use Rattle.planner.specs.declared.outcome.Outcome.{Outcome}
-use Rattle.planner.specs.declared.rating.Rating.{Rating}
+use Rattle.planner.specs.declared.outcome.Rating.{Rating}
 
 abbrev pub resultOf : Outcome → Result
 resultOf r = record { number = r .number; place = r .place; column = r .column; plan = r .plan .0; cost = r .cost; length = r .length }
@@ -16,6 +22,21 @@ ratingOf r = record { number = r .number; place = r .place; column = r .column; 
 -- Answer's figures, and the lent list afterwards
 abbrev pub answerFrom : Outcome → List ℕ → Answer
 answerFrom r l = answered (resultOf r) l
+
+-- ---- number and values for each case of an enum
+
+-- the best plan with its cost, or 8
+abbrev pub bestFigures : Best → (length : ℕ) → Result
+bestFigures Nothing l = refusal 8 0 0 l
+bestFigures (At p c) l = found (p .0) c l
+
+-- a full run's, or 9 where the room ran out
+abbrev pub runFigures : Run → Result
+runFigures r = cond (r .full) (refusal 9 0 0 (r .length)) (bestFigures (r .best) (r .length))
+
+-- a plan's cost, and the first pattern that it misses, if any
+abbrev pub missedFigures : (cost : ℕ) → Missed → jobs.Rating
+missedFigures c m = jobs.rated c (missedOf m)
 
 -- ---- the figures one by one, as the calls for C hand them out
 

@@ -1,3 +1,4 @@
+-- to believe
 pub mod Figures
-pub mod Claim
+-- proved
 pub mod laws

@@ -1,3 +1,4 @@
-pub mod Columns
+pub mod Arrays
 pub mod Jobs
 pub mod Listing
+pub mod Pairs

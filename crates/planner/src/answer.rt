@@ -1,4 +1,4 @@
-// Answer and Short run.
+// Answer and Short run over tables. These functions ask for the tables of some source, and are not reachable from outside.
 use crate::outcome::HIGH_PATTERN;
 use crate::outcome::NO_ROOM;
 use crate::outcome::Outcome;
@@ -10,10 +10,9 @@ use search::run::Run;
 use sheet::Tables;
 ghost use mathlib.Core.Path.{_≡_};
 ghost use Rattle.scope.specs.Jobs.{answerOf, shortOf, firstHigh};
-ghost use Rattle.scope.specs.Jobs as jobs;
 ghost use Rattle.sheet.specs.Tables.{Sourced, AnySource};
-ghost use Rattle.planner.specs.Figures.{resultOf, answerFrom};
-ghost use Rattle.planner.specs.laws.Jobs.{highOf, runFigures};
+ghost use Rattle.planner.specs.Figures.{resultOf, answerFrom, runFigures};
+ghost use Rattle.planner.specs.laws.Jobs.{highOf};
 
 // The figures of a full run.
 fn run_outcome(run: Run) -> Outcome
@@ -58,13 +57,6 @@ pub fn answer_tables(t: Tables, list: &mut [u32]) -> Outcome
         list,
     );
     run_outcome(run)
-}
-
-// Answer for a sheet.
-pub fn answer(s: &[u8], list: &mut [u32]) -> Outcome
-    ensures { λ r. ⌜ answerFrom r (now (list .exit)) ≡ jobs.answer (now (s .entry)) (now (list .entry)) ⌝ }
-{
-    answer_tables(sheet::read(s), list)
 }
 
 // The position, from 1, of the first word that is not below the bound; 0 if all are.
@@ -117,11 +109,4 @@ pub fn short_run_tables(t: Tables, patterns: &[u32]) -> Outcome
         Best::Nothing,
     );
     best_outcome(best, 0)
-}
-
-// Short run for a sheet.
-pub fn short_run(s: &[u8], patterns: &[u32]) -> Outcome
-    ensures { λ r. ⌜ resultOf r ≡ jobs.shortRun (now (s .entry)) (now (patterns .entry)) ⌝ }
-{
-    short_run_tables(sheet::read(s), patterns)
 }

@@ -1,31 +1,23 @@
 // The calls for C and Rust. Each returns the number, and writes every other figure through a pointer.
-use crate::answer::answer;
-use crate::answer::short_run;
 use crate::outcome::Outcome;
-use crate::print::print_listing;
-use crate::rating::Rating;
-use crate::rating::rate;
-use crate::typed::answer_text;
-use crate::typed::print_text;
-use crate::typed::rate_text;
-use crate::typed::short_run_text;
+use crate::outcome::Rating;
+use crate::sheets;
+use crate::texts;
 use circuit::Plan;
 use sheet::tables::Counts;
 use writer::write::write;
 ghost use mathlib.Core.List.{[], _∷_};
 ghost use mathlib.Core.Path.{_≡_};
 ghost use Rattle.scope.specs.Sheet.{fieldCount};
-ghost use Rattle.scope.specs.Reading.{read};
-ghost use Rattle.scope.specs.Parsing.{readText};
-ghost use Rattle.scope.specs.Program.{one};
+ghost use Rattle.scope.specs.Sheets.{SheetRead};
+ghost use Rattle.scope.specs.Texts.{TextRead};
+ghost use Rattle.scope.specs.Source.{Gives};
 ghost use Rattle.scope.specs.Jobs as jobs;
-ghost use Rattle.scope.specs.Writing as writing;
-ghost use Rattle.scope.specs.Writing.{written};
-ghost use Rattle.sheet.specs.laws.Held.{counts};
-ghost use Rattle.writer.specs.Lent.{lent};
-ghost use Rattle.scope.specs.Jobs.{answered};
+ghost use Rattle.scope.specs.Jobs.{answered, IsAnswer, IsShortRun};
+ghost use Rattle.scope.specs.Writing.{written, IsWritten};
+ghost use Rattle.scope.specs.Program.{one, listingResult, IsListing};
+ghost use Rattle.sheet.specs.Tables.{counts, lentTables};
 ghost use Rattle.planner.specs.Figures.{resultOf, ratingOf, figures, ratingFigures};
-ghost use Rattle.planner.specs.laws.Listing.{listingInto, listingLength};
 
 // Hands the figures out.
 fn hand_out(
@@ -53,7 +45,7 @@ fn flag(b: bool) -> u32
 }
 
 fn hand_out_rating(
-    r: Rating,
+    rating: Rating,
     place: &mut usize,
     column: &mut usize,
     cost: &mut u32,
@@ -61,15 +53,15 @@ fn hand_out_rating(
     pattern: &mut u32,
     length: &mut usize,
 ) -> u32
-    ensures { λ n. ⌜ ratingFigures (ratingOf r) ≡ n ∷ now (place .exit) ∷ now (column .exit) ∷ now (cost .exit) ∷ now (sound .exit) ∷ now (pattern .exit) ∷ now (length .exit) ∷ [] ⌝ }
+    ensures { λ n. ⌜ ratingFigures (ratingOf rating) ≡ n ∷ now (place .exit) ∷ now (column .exit) ∷ now (cost .exit) ∷ now (sound .exit) ∷ now (pattern .exit) ∷ now (length .exit) ∷ [] ⌝ }
 {
-    *place = r.place;
-    *column = r.column;
-    *cost = r.cost;
-    *sound = flag(r.sound);
-    *pattern = r.pattern.0;
-    *length = r.length;
-    r.number
+    *place = rating.place;
+    *column = rating.column;
+    *cost = rating.cost;
+    *sound = flag(rating.sound);
+    *pattern = rating.pattern.0;
+    *length = rating.length;
+    rating.number
 }
 
 #[no_mangle]
@@ -82,9 +74,16 @@ pub extern "C" fn comzsered_answer(
     cost: &mut u32,
     length: &mut usize,
 ) -> u32
-    ensures { λ r. ⌜ answered (figures r (now (place .exit)) (now (column .exit)) (now (plan .exit)) (now (cost .exit)) (now (length .exit))) (now (list .exit)) ≡ jobs.answer (now (sheet .entry)) (now (list .entry)) ⌝ }
+    ensures { λ r. ⌜ IsAnswer (SheetRead fieldCount (now (sheet .entry))) (now (list .entry)) (answered (figures r (now (place .exit)) (now (column .exit)) (now (plan .exit)) (now (cost .exit)) (now (length .exit))) (now (list .exit))) ⌝ }
 {
-    hand_out(answer(sheet, list), place, column, plan, cost, length)
+    hand_out(
+        sheets::answer(sheet, list),
+        place,
+        column,
+        plan,
+        cost,
+        length,
+    )
 }
 
 #[no_mangle]
@@ -97,10 +96,10 @@ pub extern "C" fn comzsered_short_run(
     cost: &mut u32,
     length: &mut usize,
 ) -> u32
-    ensures { λ r. ⌜ figures r (now (place .exit)) (now (column .exit)) (now (plan .exit)) (now (cost .exit)) (now (length .exit)) ≡ jobs.shortRun (now (sheet .entry)) (now (patterns .entry)) ⌝ }
+    ensures { λ r. ⌜ IsShortRun (SheetRead fieldCount (now (sheet .entry))) (now (patterns .entry)) (figures r (now (place .exit)) (now (column .exit)) (now (plan .exit)) (now (cost .exit)) (now (length .exit))) ⌝ }
 {
     hand_out(
-        short_run(sheet, patterns),
+        sheets::short_run(sheet, patterns),
         place,
         column,
         plan,
@@ -120,10 +119,10 @@ pub extern "C" fn comzsered_rating(
     pattern: &mut u32,
     length: &mut usize,
 ) -> u32
-    ensures { λ r. ⌜ ratingFigures (jobs.rating (now (sheet .entry)) plan) ≡ r ∷ now (place .exit) ∷ now (column .exit) ∷ now (cost .exit) ∷ now (sound .exit) ∷ now (pattern .exit) ∷ now (length .exit) ∷ [] ⌝ }
+    ensures { λ r. ⌜ Gives (SheetRead fieldCount (now (sheet .entry))) (λ q. ratingFigures (jobs.ratingOf q plan)) (r ∷ now (place .exit) ∷ now (column .exit) ∷ now (cost .exit) ∷ now (sound .exit) ∷ now (pattern .exit) ∷ now (length .exit) ∷ []) ⌝ }
 {
     hand_out_rating(
-        rate(sheet, Plan(plan)),
+        sheets::rate(sheet, Plan(plan)),
         place,
         column,
         cost,
@@ -135,9 +134,9 @@ pub extern "C" fn comzsered_rating(
 
 #[no_mangle]
 pub extern "C" fn comzsered_listing(sheet: &[u8], out: &mut [u8]) -> usize
-    ensures { λ r. ⌜ (now (out .exit) ≡ listingInto (read fieldCount (now (sheet .entry))) (now (out .entry))) × (r ≡ listingLength (read fieldCount (now (sheet .entry))) (now (out .entry))) ⌝ }
+    ensures { λ n. ⌜ IsListing (SheetRead fieldCount (now (sheet .entry))) (now (out .entry)) (listingResult n (now (out .exit))) ⌝ }
 {
-    print_listing(sheet, out)
+    sheets::print_listing(sheet, out)
 }
 
 // The same for a typed text.
@@ -152,9 +151,9 @@ pub extern "C" fn comzsered_text_answer(
     cost: &mut u32,
     length: &mut usize,
 ) -> u32
-    ensures { λ r. ⌜ answered (figures r (now (place .exit)) (now (column .exit)) (now (plan .exit)) (now (cost .exit)) (now (length .exit))) (now (list .exit)) ≡ jobs.answerOf (readText (now (text .entry))) (now (list .entry)) ⌝ }
+    ensures { λ r. ⌜ IsAnswer (TextRead (now (text .entry))) (now (list .entry)) (answered (figures r (now (place .exit)) (now (column .exit)) (now (plan .exit)) (now (cost .exit)) (now (length .exit))) (now (list .exit))) ⌝ }
 {
-    hand_out(answer_text(text, list), place, column, plan, cost, length)
+    hand_out(texts::answer(text, list), place, column, plan, cost, length)
 }
 
 #[no_mangle]
@@ -167,10 +166,10 @@ pub extern "C" fn comzsered_text_short_run(
     cost: &mut u32,
     length: &mut usize,
 ) -> u32
-    ensures { λ r. ⌜ figures r (now (place .exit)) (now (column .exit)) (now (plan .exit)) (now (cost .exit)) (now (length .exit)) ≡ jobs.shortOf (readText (now (text .entry))) (now (patterns .entry)) ⌝ }
+    ensures { λ r. ⌜ IsShortRun (TextRead (now (text .entry))) (now (patterns .entry)) (figures r (now (place .exit)) (now (column .exit)) (now (plan .exit)) (now (cost .exit)) (now (length .exit))) ⌝ }
 {
     hand_out(
-        short_run_text(text, patterns),
+        texts::short_run(text, patterns),
         place,
         column,
         plan,
@@ -190,10 +189,10 @@ pub extern "C" fn comzsered_text_rating(
     pattern: &mut u32,
     length: &mut usize,
 ) -> u32
-    ensures { λ r. ⌜ ratingFigures (jobs.ratingOf (readText (now (text .entry))) plan) ≡ r ∷ now (place .exit) ∷ now (column .exit) ∷ now (cost .exit) ∷ now (sound .exit) ∷ now (pattern .exit) ∷ now (length .exit) ∷ [] ⌝ }
+    ensures { λ r. ⌜ Gives (TextRead (now (text .entry))) (λ q. ratingFigures (jobs.ratingOf q plan)) (r ∷ now (place .exit) ∷ now (column .exit) ∷ now (cost .exit) ∷ now (sound .exit) ∷ now (pattern .exit) ∷ now (length .exit) ∷ []) ⌝ }
 {
     hand_out_rating(
-        rate_text(text, Plan(plan)),
+        texts::rate(text, Plan(plan)),
         place,
         column,
         cost,
@@ -205,9 +204,9 @@ pub extern "C" fn comzsered_text_rating(
 
 #[no_mangle]
 pub extern "C" fn comzsered_text_listing(text: &[u8], out: &mut [u8]) -> usize
-    ensures { λ r. ⌜ (now (out .exit) ≡ listingInto (readText (now (text .entry))) (now (out .entry))) × (r ≡ listingLength (readText (now (text .entry))) (now (out .entry))) ⌝ }
+    ensures { λ n. ⌜ IsListing (TextRead (now (text .entry))) (now (out .entry)) (listingResult n (now (out .exit))) ⌝ }
 {
-    print_text(text, out)
+    texts::print_listing(text, out)
 }
 
 // A sheet from its tables.
@@ -231,7 +230,7 @@ pub extern "C" fn comzsered_write(
     column: &mut usize,
     length: &mut usize,
 ) -> u32
-    ensures { λ r. ⌜ written r (now (place .exit)) (now (column .exit)) (now (length .exit)) (now (out .exit)) ≡ writing.write fieldCount (lent (counts switches faults gates rules wishes) (now (kind .entry)) (now (left .entry)) (now (right .entry)) (now (rule .entry)) (now (first .entry)) (now (second .entry)) (now (third .entry))) (now (out .entry)) ⌝ }
+    ensures { λ r. ⌜ IsWritten fieldCount (lentTables (counts switches faults gates rules wishes) (now (kind .entry)) (now (left .entry)) (now (right .entry)) (now (rule .entry)) (now (first .entry)) (now (second .entry)) (now (third .entry))) (now (out .entry)) (written r (now (place .exit)) (now (column .exit)) (now (length .exit)) (now (out .exit))) ⌝ }
 {
     let c = Counts {
         switches,

@@ -1,12 +1,12 @@
-// What Answer and Short run return.
+// What the jobs return.
+use circuit::Pattern;
 use circuit::Plan;
 use search::best::Best;
 ghost use mathlib.Core.Path.{_≡_};
 ghost use Rattle.scope.specs.Jobs.{refusal};
-ghost use Rattle.planner.specs.Figures.{resultOf};
-ghost use Rattle.planner.specs.laws.Jobs.{bestFigures};
+ghost use Rattle.planner.specs.Figures.{resultOf, bestFigures};
 
-// The number is 0 with a plan; otherwise it says why there is none, and place and column where.
+// What Answer and Short run return. The number is 0 with a plan; otherwise it says why there is none, and place and column where.
 pub struct Outcome {
     pub number: u32,
     pub place: usize,
@@ -14,6 +14,24 @@ pub struct Outcome {
     pub plan: Plan,
     pub cost: u32,
     pub length: usize,
+}
+
+// What Rating returns.
+pub struct Rating {
+    pub number: u32,
+    pub place: usize,
+    pub column: usize,
+    pub cost: u32,
+    pub sound: bool,
+    pub pattern: Pattern,
+    pub length: usize,
+}
+
+// What the three calls of demand 3 return: Answer, Short run over what it listed, and Short run over the first of that.
+pub struct PairRuns {
+    pub full: Outcome,
+    pub short: Outcome,
+    pub front: Outcome,
 }
 
 pub const NO_PLAN: u32 = 8;

@@ -1,4 +1,4 @@
-// The program's listing.
+// The program's listing, over tables.
 use crate::answer::answer_tables;
 use crate::outcome::Outcome;
 use crate::rating::wide;
@@ -8,12 +8,9 @@ use sheet::Tables;
 use writer::line::narrow;
 ghost use mathlib.Core.Path.{_≡_};
 ghost use Prim.Native.Nat.{_<_};
-ghost use Rattle.scope.specs.Sheet.{fieldCount};
-ghost use Rattle.scope.specs.Reading.{read};
-ghost use Rattle.scope.specs.Program.{third};
+ghost use Rattle.scope.specs.Program.{third, listingResult, listingOf};
 ghost use Rattle.sheet.specs.Tables.{Sourced, AnySource};
 ghost use Rattle.planner.specs.Figures.{resultOf};
-ghost use Rattle.planner.specs.laws.Listing.{listingInto, listingLength};
 
 // The list that the program lends.
 const ROOM: usize = 4096;
@@ -33,7 +30,7 @@ fn figure(r: Outcome) -> u32
 // A buffer that is shorter than the longest listing is left as it was, and the length is 0.
 pub fn print_tables(t: Tables, out: &mut [u8]) -> usize
     requires { ⌜ Sourced t ⌝ }
-    ensures { λ n. ⌜ AnySource t (λ r. (now (out .exit) ≡ listingInto r (now (out .entry))) × (n ≡ listingLength r (now (out .entry)))) ⌝ }
+    ensures { λ n. ⌜ AnySource t (λ r. listingResult n (now (out .exit)) ≡ listingOf r (now (out .entry))) ⌝ }
 {
     if out.len() < MOST_BYTES {
         return 0;
@@ -59,11 +56,4 @@ pub fn print_tables(t: Tables, out: &mut [u8]) -> usize
         &third[..w],
         &list[..n],
     )
-}
-
-// The listing for a sheet.
-pub fn print_listing(s: &[u8], out: &mut [u8]) -> usize
-    ensures { λ r. ⌜ (now (out .exit) ≡ listingInto (read fieldCount (now (s .entry))) (now (out .entry))) × (r ≡ listingLength (read fieldCount (now (s .entry))) (now (out .entry))) ⌝ }
-{
-    print_tables(sheet::read(s), out)
 }

@@ -1,24 +1,14 @@
-// Rating: the cost of a plan, whether it is sound, and the smallest pattern that it does not pass.
+// Rating over tables: the cost of a plan, whether it is sound, and the smallest pattern that it does not pass.
 use crate::outcome::HIGH_PLAN;
+use crate::outcome::Rating;
 use circuit::Pattern;
 use circuit::Plan;
 use circuit::rule::Missed;
 use sheet::Tables;
 ghost use mathlib.Core.Path.{_≡_};
 ghost use Rattle.scope.specs.Jobs as jobs;
-ghost use Rattle.circuit.specs.Lent.{missedOf};
 ghost use Rattle.sheet.specs.Tables.{Sourced, AnySource};
-ghost use Rattle.planner.specs.Figures.{ratingOf};
-
-pub struct Rating {
-    pub number: u32,
-    pub place: usize,
-    pub column: usize,
-    pub cost: u32,
-    pub sound: bool,
-    pub pattern: Pattern,
-    pub length: usize,
-}
+ghost use Rattle.planner.specs.Figures.{ratingOf, missedFigures};
 
 fn unrated(number: u32, place: usize, column: usize) -> Rating
     ensures { λ r. ⌜ ratingOf r ≡ jobs.unrated number place column ⌝ }
@@ -35,7 +25,7 @@ fn unrated(number: u32, place: usize, column: usize) -> Rating
 }
 
 fn rated(cost: u32, missed: Missed) -> Rating
-    ensures { λ r. ⌜ ratingOf r ≡ jobs.rated cost (missedOf missed) ⌝ }
+    ensures { λ r. ⌜ ratingOf r ≡ missedFigures cost missed ⌝ }
 {
     match missed {
         Missed::Nothing => Rating {
@@ -97,11 +87,4 @@ pub fn rate_tables(t: Tables, plan: Plan) -> Rating
         plan,
     );
     rated(cost, missed)
-}
-
-// Rating for a sheet.
-pub fn rate(s: &[u8], plan: Plan) -> Rating
-    ensures { λ r. ⌜ ratingOf r ≡ jobs.rating (now (s .entry)) (plan .0) ⌝ }
-{
-    rate_tables(sheet::read(s), plan)
 }

@@ -1,6 +1,7 @@
-// The second program: answers the typed text on standard input and prints the same listing as the first. What
-// it prints is proved up to the two calls of the operating system: `print_text` gives it byte for byte.
-use planner::typed::print_text;
+// The second program: answers the typed text on standard input and prints the same listing as the first. That
+// `print_listing` gives the listing of the bytes that it is handed, byte for byte, is proved; that this function
+// hands on what was read, and writes what it gave, is tested.
+use planner::texts::print_listing;
 
 // One byte more than a text may have, so that a longer one is told.
 const INPUT: usize = 16_385;
@@ -11,6 +12,6 @@ fn main() {
     let mut input = [0u8; INPUT];
     let n = io::read_full(0, &mut input);
     let mut out = [0u8; OUTPUT];
-    let m = print_text(&input[..n], &mut out);
+    let m = print_listing(&input[..n], &mut out);
     io::write_all(1, &out[..m]);
 }

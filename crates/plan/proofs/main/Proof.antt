@@ -1,3 +1,5 @@
+-- `main` meets its contract: what was read and what is written are no longer than their buffers.
+-- Assumes nothing.
 use mathlib.Core.Path.{sym}
 use lib.Seq.{length-take-le}
 use Rattle.planner.specs.laws.Listing.{listing-fits}
@@ -26,7 +28,7 @@ print-listing-requires c κs = search needs
 array-share-prefix-out : tie.Need-array-share-prefix-out
 array-share-prefix-out c =
     let p = c .before .print-listing in
-    listing-fits _ (p .last .1 .0) (p .result) (p .ensures .0) (p .ensures .1) (search needs)
+    listing-fits _ (p .last .1 .0) (p .result) (p .ensures) (search needs)
 
 slice-aggregate-write-all : tie.Need-slice-aggregate-write-all
 slice-aggregate-write-all c = sym (length-take-le _ _ (array-share-prefix-out (c .before)))

@@ -11,11 +11,11 @@ use lib.ListN.{length, getD, take, drop, drop-of-length-le}
 use lib.Seq.{drop-cons, length-take-le}
 use borrow.Author.Tests.{lt-ltb, le-ltb}
 use Rattle.scope.specs.Sheet.{Sheet, sheet, All, Among, Valid}
-use Rattle.scope.specs.Reading.{Read, accepted}
+use Rattle.scope.specs.Causes.{Read, accepted}
 use Rattle.scope.specs.Source.{Source}
 use Rattle.scope.specs.Meaning.{plans, patterns, switchOn, passes, truth, cost}
 use Rattle.scope.specs.Rule.{noRoom, verdictOf, Run, rule, missed, short, best}
-use Rattle.scope.specs.Jobs.{task, Result, refusal, found, result, answered, answerOf, firstHigh, shortOf, rated, unrated, ratingOf}
+use Rattle.scope.specs.Jobs.{task, refusal, found, result, answered, answerOf, firstHigh, shortOf, rated, unrated, ratingOf}
 use Rattle.circuit.specs.Lent.{Gates, Clauses, circuit, wishesOf, wishSheet}
 use Rattle.search.specs.declared.best.Best.{Best}
 use Rattle.search.specs.declared.best.Best.the-variants.{Nothing, At}
@@ -23,9 +23,10 @@ use Rattle.search.specs.declared.run.Run as made
 use Rattle.search.specs.Table.{table, tableOf, Lent, bestOf, Priced, verdictFrom, Ran}
 use Rattle.sheet.specs.declared.tables.Tables.{Tables}
 use Rattle.scope.specs.Tables.{Holds}
-use Rattle.sheet.specs.Tables.{outcome, lent, Sourced}
+use Rattle.sheet.specs.Tables.{outcome, asTables, Sourced}
 use Rattle.sheet.specs.laws.Outcomes.{accepted-of, refused-of}
-use Rattle.planner.specs.laws.Columns.{accepted-holds, gates-fit, rules-fit, wishes-fit, wishes-are, circuit-is}
+use Rattle.planner.specs.Figures.{bestFigures, runFigures}
+use Rattle.planner.specs.laws.Arrays.{read-holds, gates-fit, rules-fit, wishes-fit, wishes-are, circuit-is}
 
 -- ---- the sheet that was read
 
@@ -33,12 +34,12 @@ pub record Sheeted (r : Read) (u : Tables) : Type 0 where
   pub sheet : Sheet
   pub reads : r ≡ accepted sheet
   pub valid : Valid sheet
-  pub cut : Holds (lent u) sheet
+  pub cut : Holds (asTables u) sheet
 
 pub sheeted : (r : Read) → Source r → (u : Tables) → u ≡ outcome r → u .number ≡ 0 → Sheeted r u
 sheeted r h u e z =
     let (t, f) = accepted-of r h u e z in
-    record { sheet = t; reads = f; valid = h .valid t f; cut = accepted-holds t u r e f }
+    record { sheet = t; reads = f; valid = h .valid t f; cut = read-holds t u r e f }
 
 pub told-sheet : (u : Tables) (h : Sourced u) → u .number ≡ 0 → Sheeted (h .told) u
 told-sheet u h z = sheeted (h .told) (h .source) u (h .tables) z
@@ -49,7 +50,7 @@ table-task : (t : Sheet) → table (sheet (t .switches) (t .faults) (t .gates) (
 unfolding passes truth cost switchOn
 table-task t = refl
 
--- ---- what the columns of a sheet that was read mean; the code's counts are g, n and w
+-- ---- what the arrays of a sheet that was read mean; the code's counts are g, n and w
 
 module _ {r : Read} (u : Tables) (h : Sheeted r u) (g n w : ℕ) (gates : g ≡ u .gates) (rules : n ≡ u .rules) (wishes : w ≡ u .wishes) where
   abbrev kinds : List ℕ
@@ -113,11 +114,6 @@ module _ (r : Read) (h : Source r) (u : Tables) (e : u ≡ outcome r) (z : u .nu
 
 -- ---- a verdict's figures
 
--- the best plan with its cost, or that there is none
-abbrev pub bestFigures : Best → ℕ → Result
-bestFigures Nothing l = refusal 8 0 0 l
-bestFigures (At p c) l = found (p .0) c l
-
 pub best-figures : (t : Sheet) (b : Best) (l : ℕ) → Priced (task t) b → bestFigures b l ≡ result t (verdictOf (bestOf b)) l
 best-figures t Nothing l h = refl
 best-figures t (At p c) l h = ap (λ m. found (p .0) m l) h
@@ -169,9 +165,6 @@ high-some zero h = absurd (h refl)
 high-some (suc i) h = refl
 
 -- ---- Answer
-
-abbrev pub runFigures : made.Run → Result
-runFigures r = cond (r .full) (refusal 9 0 0 (r .length)) (bestFigures (r .best) (r .length))
 
 run-figures : (t : Sheet) (r : made.Run) → Priced (task t) (r .best) → runFigures r ≡ result t (verdictFrom r) (r .length)
 run-figures t r h = go (r .full)

@@ -3,27 +3,27 @@ use Prim.Native.Nat.{ℕ, _≤_, _<_}
 use native.Mathlib.Omega.{arith}
 use mathlib.Core.Bool.{Bool, true, false, cond}
 use mathlib.Core.List.{List, [], _∷_, _++_}
-use mathlib.Core.Path.{_≡_, refl, sym, ap, subst, _∙_}
+use mathlib.Core.Path.{_≡_, refl, sym, ap, ap₂, subst, _∙_}
 use lib.Dec.{eqb, ltb}
 use lib.ListN.{length, getD, take, drop, replicate, length-append, length-drop, length-replicate}
 use borrow.Author.Tests.{leb-true, lt-ltb, le-ltb, ne-eqb}
 use Rattle.scope.specs.Sheet.{Sheet, fits, All, Valid}
-use Rattle.scope.specs.Reading.{Read, accepted, refused}
+use Rattle.scope.specs.Causes.{Read, accepted, refused}
 use Rattle.scope.specs.Source.{Source}
 use Rattle.scope.specs.Meaning.{bits, kept, switchOn}
 use Rattle.scope.specs.Jobs.{Answer, answerOf, over}
 use Rattle.scope.specs.Demands.{listed}
-use Rattle.scope.specs.Program.{Row, row, each, switchRow, wishRow, patternRow, planRows, third, answerRows, ended, room, outputRows, rowsBytes}
+use Rattle.scope.specs.Program.{Row, row, each, switchRow, wishRow, patternRow, planRows, third, answerRows, ended, room, outputRows, rowsBytes, output, mostOutput, ListingResult, listingResult, listingOf, IsListing}
 use Rattle.scope.specs.laws.Outputs.{output-fits, listed-small}
 use Rattle.circuit.specs.Lent.{rows, Clauses, wishesOf, wishSheet}
 use Rattle.listing.specs.Rows.{Wrote, wrote-first, Small}
 use Rattle.listing.specs.Listing.{planRowsOf, listingRows}
 use Rattle.sheet.specs.declared.tables.Tables.{Tables}
 use Rattle.scope.specs.Tables.{Holds}
-use Rattle.sheet.specs.Tables.{tables, outcome, lent, Sourced}
+use Rattle.sheet.specs.Tables.{tables, outcome, asTables, Sourced}
 use Rattle.planner.specs.declared.outcome.Outcome.{Outcome}
 use Rattle.planner.specs.Figures.{resultOf, answerFrom}
-use Rattle.planner.specs.laws.Columns.{accepted-holds, wishes-fit, wishes-are}
+use Rattle.planner.specs.laws.Arrays.{read-holds, wishes-fit, wishes-are}
 
 -- ---- figures that fit
 
@@ -41,8 +41,8 @@ unfolding tables rows
 clauses-any u h = go (h .told) refl
   where
     go : (o : Read) → h .told ≡ o → Clauses (u .switches) (take (u .wishes) (u .first)) (take (u .wishes) (u .second)) (take (u .wishes) (u .third))
-    go (accepted t) f = wishes-fit t (h .source .valid t f) u (accepted-holds t u (h .told) (h .tables) f)
-    go (refused c place column) f = rw (h .tables ∙ ap outcome f) record { switches = omega arith; columns = record { few = omega arith; seconds = refl; thirds = refl }; wishes = tt }
+    go (accepted t) f = wishes-fit t (h .source .valid t f) u (read-holds t u (h .told) (h .tables) f)
+    go (refused c place column) f = rw (h .tables ∙ ap outcome f) record { switches = omega arith; arrays = record { few = omega arith; seconds = refl; thirds = refl }; wishes = tt }
 
 -- ---- the rows
 
@@ -51,7 +51,7 @@ wish-row : (t : Sheet) (p : ℕ) → wishRow (wishSheet (t .switches) []) p ≡ 
 unfolding kept switchOn
 wish-row t p = refl
 
-plan-rows : (t : Sheet) (u : Tables) (p : ℕ) (b : Bool) → Valid t → Holds (lent u) t → planRowsOf b (u .switches) p (wishesOf (take (u .wishes) (u .first)) (take (u .wishes) (u .second)) (take (u .wishes) (u .third))) ≡ cond b (planRows t p) []
+plan-rows : (t : Sheet) (u : Tables) (p : ℕ) (b : Bool) → Valid t → Holds (asTables u) t → planRowsOf b (u .switches) p (wishesOf (take (u .wishes) (u .first)) (take (u .wishes) (u .second)) (take (u .wishes) (u .third))) ≡ cond b (planRows t p) []
 plan-rows t u p true v c = rw (wishes-are t v u c, c .switches) (ap (λ f. each switchRow 1 (bits (t .switches) p) ++ each f 1 (t .wishes)) (wish-row t p))
 plan-rows t u p false v c = refl
 
@@ -60,27 +60,24 @@ pub rows-are : (r : Read) → Source r → (u : Tables) (a : Answer) → u ≡ o
     → listingRows (a .result .number) (a .result .place) (third (a .result)) (planRowsOf (eqb (a .result .number) 0) (u .switches) (a .result .plan) (wishesOf (take (u .wishes) (u .first)) (take (u .wishes) (u .second)) (take (u .wishes) (u .third)))) (listed a) ≡ outputRows r
 unfolding outputRows
 rows-are (accepted t) h u a e f =
-    ap (λ rs. listingRows (a .result .number) (a .result .place) (third (a .result)) rs (listed a)) (plan-rows t u (a .result .plan) (eqb (a .result .number) 0) (h .valid t refl) (accepted-holds t u (accepted t) e refl))
+    ap (λ rs. listingRows (a .result .number) (a .result .place) (third (a .result)) rs (listed a)) (plan-rows t u (a .result .plan) (eqb (a .result .number) 0) (h .valid t refl) (read-holds t u (accepted t) e refl))
     ∙ ap (λ b. ended (answerRows (accepted t) b)) f
 rows-are (refused c place column) h u a e f =
     let z : eqb c 0 ≡ false = ne-eqb c 0 (omega (arith, h .refusal c place column refl .some)) in
     let n : eqb (a .result .number) 0 ≡ false = ap (λ b. eqb (b .result .number) 0) f ∙ z in
     rw n (ap (λ b. ended (row "A" (b .result .number) (b .result .place) (third (b .result)) ∷ [] ++ each patternRow 1 (listed b))) f)
 
--- ---- the buffer: the listing, and what comes after it as it was; nothing in one that is too short
-unfoldable pub listingInto : Read → List ℕ → List ℕ
-listingInto r out = cond (ltb (length out) 71094) out (over (rowsBytes (outputRows r)) out)
+-- ---- the buffer: the listing, and what comes after it as it was; nothing in one that may be too short
 
-unfoldable pub listingLength : Read → List ℕ → ℕ
-listingLength r out = cond (ltb (length out) 71094) 0 (length (rowsBytes (outputRows r)))
+pub left-alone : (r : Read) (out : List ℕ) → length out < mostOutput → listingResult 0 out ≡ listingOf r out
+unfolding listingOf
+left-alone r out h = rw (lt-ltb (length out) mostOutput h)
 
-pub too-short : (r : Read) (out : List ℕ) → length out < 71094 → (listingInto r out ≡ out) × (listingLength r out ≡ 0)
-unfolding listingInto listingLength
-too-short r out h = rw (lt-ltb (length out) 71094 h) (refl, refl)
-
-pub wrote-listing : (r : Read) (out now : List ℕ) (rs : List Row) (end : ℕ) → 71094 ≤ length out → rs ≡ outputRows r → Wrote out 0 rs now end → (now ≡ listingInto r out) × (end ≡ listingLength r out)
-unfolding listingInto listingLength
-wrote-listing r out now rs end h e w = rw (le-ltb (length out) 71094 h, ← e) (wrote-first out rs now end w, omega (arith, w .end-is, w .size))
+pub wrote-listing : (r : Read) (out now : List ℕ) (rs : List Row) (end : ℕ) → mostOutput ≤ length out → rs ≡ outputRows r → Wrote out 0 rs now end → listingResult end now ≡ listingOf r out
+unfolding listingOf output
+wrote-listing r out now rs end h e w =
+    let n : end ≡ length (rowsBytes rs) = omega (arith, w .end-is, w .size) in
+    rw (le-ltb (length out) mostOutput h, ← e) (ap₂ listingResult n (wrote-first out rs now end w))
 
 -- ---- what Answer returned, o, and left in the program's list, l
 module _ (r : Read) (h : Source r) (o : Outcome) (l : List ℕ) (g : answerFrom o l ≡ answerOf r (replicate room 0)) where
@@ -96,16 +93,16 @@ module _ (r : Read) (h : Source r) (o : Outcome) (l : List ℕ) (g : answerFrom 
       omega (arith, m i k)
 
 -- what is put into a buffer of the same length is no longer than it
-listing-within : (r : Read) (out after : List ℕ) → after ≡ listingInto r out → length after ≡ length out → listingLength r out ≤ length out
-unfolding listingInto listingLength
-listing-within r out after e n = go (ltb (length out) 71094) (ap length (sym e) ∙ n)
+listing-within : (r : Read) (out : List ℕ) (b : ListingResult) → b ≡ listingOf r out → length (b .buffer) ≡ length out → b .length ≤ length out
+unfolding listingOf
+listing-within r out b e n = rw e (go (ltb (length out) mostOutput) (rw e at n))
   where
-    go : (b : Bool) → length (cond b out (over (rowsBytes (outputRows r)) out)) ≡ length out → cond b 0 (length (rowsBytes (outputRows r))) ≤ length out
+    go : (t : Bool) → length (cond t (listingResult 0 out) (listingResult (length (output r)) (over (output r) out)) .buffer) ≡ length out → cond t (listingResult 0 out) (listingResult (length (output r)) (over (output r) out)) .length ≤ length out
     go true h = omega arith
-    go false h = omega (arith, length-append (rowsBytes (outputRows r)) (drop (length (rowsBytes (outputRows r))) out), length-drop (length (rowsBytes (outputRows r))) out)
+    go false h = omega (arith, length-append (output r) (drop (length (output r)) out), length-drop (length (output r)) out)
 
 -- so the listing stands in a buffer that has room for the longest
-pub listing-fits : (r : Read) (after : List ℕ) (m : ℕ) → after ≡ listingInto r (replicate 71094 0) → m ≡ listingLength r (replicate 71094 0) → length after ≡ 71094 → m ≤ length after
-listing-fits r after m e f n =
-    let w : listingLength r (replicate 71094 0) ≤ length {A = ℕ} (replicate 71094 0) = listing-within r (replicate 71094 0) after e (n ∙ sym (length-replicate {A = ℕ} 71094 0)) in
-    rw (f, n) (rw length-replicate at w)
+pub listing-fits : (R : Read → Type 0) (after : List ℕ) (m : ℕ) → IsListing R (replicate mostOutput 0) (listingResult m after) → length after ≡ mostOutput → m ≤ length after
+listing-fits R after m g n =
+    let w : m ≤ length {A = ℕ} (replicate mostOutput 0) = listing-within (g .read) (replicate mostOutput 0) (listingResult m after) (g .given) (n ∙ sym (length-replicate {A = ℕ} mostOutput 0)) in
+    rw n (rw length-replicate at w)

@@ -1,3 +1,5 @@
+-- `main` meets its contract: what was read and what is written are no longer than their buffers.
+-- Assumes nothing.
 use mathlib.Core.Path.{sym}
 use lib.Seq.{length-take-le}
 use Rattle.planner.specs.laws.Listing.{listing-fits}
@@ -14,19 +16,19 @@ read-full-requires c κs = search needs
 array-share-prefix-input : tie.Need-array-share-prefix-input
 array-share-prefix-input c = search needs
 
-slice-aggregate-print-text : tie.Need-slice-aggregate-print-text
-slice-aggregate-print-text c = search needs
+slice-aggregate-print-listing : tie.Need-slice-aggregate-print-listing
+slice-aggregate-print-listing c = search needs
 
-slice-aggregate-print-text-2 : tie.Need-slice-aggregate-print-text-2
-slice-aggregate-print-text-2 c = search needs
+slice-aggregate-print-listing-2 : tie.Need-slice-aggregate-print-listing-2
+slice-aggregate-print-listing-2 c = search needs
 
-print-text-requires : tie.Need-print-text-requires
-print-text-requires c κs = search needs
+print-listing-requires : tie.Need-print-listing-requires
+print-listing-requires c κs = search needs
 
 array-share-prefix-out : tie.Need-array-share-prefix-out
 array-share-prefix-out c =
-    let p = c .before .print-text in
-    listing-fits _ (p .last .1 .0) (p .result) (p .ensures .0) (p .ensures .1) (search needs)
+    let p = c .before .print-listing in
+    listing-fits _ (p .last .1 .0) (p .result) (p .ensures) (search needs)
 
 slice-aggregate-write-all : tie.Need-slice-aggregate-write-all
 slice-aggregate-write-all c = sym (length-take-le _ _ (array-share-prefix-out (c .before)))
@@ -44,9 +46,9 @@ main-spec =
     slice-aggregate-read-full
     read-full-requires
     array-share-prefix-input
-    slice-aggregate-print-text
-    slice-aggregate-print-text-2
-    print-text-requires
+    slice-aggregate-print-listing
+    slice-aggregate-print-listing-2
+    print-listing-requires
     array-share-prefix-out
     slice-aggregate-write-all
     write-all-requires

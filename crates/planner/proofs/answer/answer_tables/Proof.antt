@@ -1,8 +1,10 @@
+-- `answer::answer_tables` meets its contract: a refusal is handed on; otherwise the arrays up to their counts are the sheet's, and the rounds over them are its full run.
+-- Assumes nothing.
 use Rattle.search.specs.Table.{Ran}
 use mathlib.Core.Path.{sym, ap, subst, _∙_}
 use lib.Seq.{length-take-le}
 use Rattle.scope.specs.Jobs.{answered}
-use Rattle.planner.specs.laws.Columns.{fronts}
+use Rattle.planner.specs.laws.Arrays.{fronts}
 use Rattle.planner.specs.laws.Jobs.{Sheeted, sheeted, told-sheet, lent-ok, table-is, answer-refused, answer-run}
 use borrow.Author.Needs.{needs}
 use Rattle.planner.proofs.answer.answer_tables.Statement.{statement}

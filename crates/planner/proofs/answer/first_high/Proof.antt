@@ -1,3 +1,5 @@
+-- `answer::first_high` meets its contract: the words passed are below the bound, so the first high one from here on is that of the whole list.
+-- Assumes nothing.
 use Prim.Native.Nat.{_≤_, _+_, _-_}
 use native.Mathlib.Omega.{arith}
 use mathlib.Core.Option.{some}

@@ -1,3 +1,5 @@
+-- `answer::run_outcome` meets its contract: by whether the room ran out.
+-- Assumes nothing.
 use mathlib.Core.Path.{sym, _∙_}
 use borrow.Author.Needs.{needs}
 use Rattle.planner.proofs.answer.run_outcome.Statement.{statement}

@@ -1,3 +1,5 @@
+-- `answer::short_run_tables` meets its contract: a refusal is handed on, and a pattern that is too high is told by its position; otherwise the arrays up to their counts are the sheet's, and the best plan over the patterns is its short run.
+-- Assumes nothing.
 use Prim.Native.Nat.{_^_}
 use native.Mathlib.Omega.{arith}
 use mathlib.Core.Path.{_≡_, sym, ap, subst, _∙_}
@@ -7,7 +9,7 @@ use Rattle.scope.specs.Rule.{best}
 use Rattle.scope.specs.Jobs.{firstHigh}
 use Rattle.search.specs.Table.{bestOf, Priced}
 use Rattle.search.specs.laws.Steps.{none-fails}
-use Rattle.planner.specs.laws.Columns.{fronts}
+use Rattle.planner.specs.laws.Arrays.{fronts}
 use Rattle.planner.specs.laws.Jobs.{Sheeted, sheeted, told-sheet, lent-ok, table-is, short-refused, short-high, short-low, highOf, high-none, high-some}
 use borrow.Author.Needs.{needs}
 use Rattle.planner.proofs.answer.short_run_tables.Statement.{statement}

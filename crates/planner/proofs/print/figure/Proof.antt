@@ -1,3 +1,5 @@
+-- `print::figure` meets its contract: by whether the number is that of a malformed line.
+-- Assumes nothing.
 use borrow.Author.Tests.{eq-eqb, ne-eqb}
 use Rattle.planner.proofs.print.figure.Statement.{statement}
 use Rattle.planner.proofs.print.figure.Tie as tie

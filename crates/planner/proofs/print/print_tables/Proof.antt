@@ -1,17 +1,19 @@
+-- `print::print_tables` meets its contract: a buffer that may be too short is left alone; otherwise the figures and words that Answer gave fit their columns, and the rows put are those of the listing.
+-- Assumes nothing.
 use native.Mathlib.Omega.{arith}
 use mathlib.Core.Path.{_≡_, sym}
 use denote.Ref.{now}
 use lib.ListN.{length, take}
 use lib.Seq.{length-take-le}
 use Rattle.planner.specs.Figures.{answerFrom}
-use Rattle.planner.specs.laws.Columns.{fronts}
-use Rattle.planner.specs.laws.Listing.{too-short, wrote-listing, rows-are, clauses-any, figures-small, length-small, words-small}
+use Rattle.planner.specs.laws.Arrays.{fronts}
+use Rattle.planner.specs.laws.Listing.{left-alone, wrote-listing, rows-are, clauses-any, figures-small, length-small, words-small}
 use borrow.Author.Needs.{needs}
 use Rattle.planner.proofs.print.print_tables.Statement.{statement}
 use Rattle.planner.proofs.print.print_tables.Tie as tie
 
 returns : tie.Need-returns
-returns c = λ told source e. let (f, g) = too-short told (now (c .before .before .args .out)) (c .if1 .taken) in (sym f, sym g)
+returns c = λ told source e. left-alone told (now (c .before .before .args .out)) (c .if1 .taken)
 
 slice-aggregate-answer-tables : tie.Need-slice-aggregate-answer-tables
 slice-aggregate-answer-tables c = search needs

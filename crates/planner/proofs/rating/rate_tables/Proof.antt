@@ -1,10 +1,12 @@
+-- `rating::rate_tables` meets its contract: a refusal is handed on, and a plan of 2^a or more is 10; otherwise the arrays up to their counts are the sheet's, and so are the plan's cost and the first pattern that it misses.
+-- Assumes nothing.
 use Prim.Native.Nat.{_^_}
 use native.Mathlib.Omega.{arith}
 use mathlib.Core.Path.{_≡_, sym, ap, ap₂, _∙_}
 use lib.Seq.{length-take-le}
 use Rattle.scope.specs.Meaning.{plans}
 use Rattle.scope.specs.Jobs as jobs
-use Rattle.planner.specs.laws.Columns.{fronts}
+use Rattle.planner.specs.laws.Arrays.{fronts}
 use Rattle.planner.specs.laws.Jobs.{Sheeted, sheeted, told-sheet, gates-ok, wishes-ok, cost-is, missed-is, rating-refused, rating-high, rating-low}
 use borrow.Author.Needs.{needs}
 use Rattle.planner.proofs.rating.rate_tables.Statement.{statement}

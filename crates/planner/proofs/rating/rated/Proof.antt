@@ -1,3 +1,5 @@
+-- `rating::rated` meets its contract: by the case of the enum.
+-- Assumes nothing.
 use borrow.Author.Needs.{needs}
 use Rattle.planner.proofs.rating.rated.Statement.{statement}
 use Rattle.planner.proofs.rating.rated.Tie as tie

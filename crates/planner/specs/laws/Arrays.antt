@@ -1,4 +1,4 @@
--- A reader's tables, cut to their counts, are the columns of the sheet that was read. Assumes nothing.
+-- A reader's tables, cut to their counts, are the arrays of the sheet that was read. Assumes nothing.
 use Prim.Native.Nat.{ℕ, _+_, _-_, _*_, _≤_}
 use native.Mathlib.Omega.{arith}
 use mathlib.Core.Bool.{Bool, true, false, cond}
@@ -8,13 +8,13 @@ use mathlib.Core.Path.{_≡_, refl, sym, ap, ap₂, _∙_}
 use lib.ListN.{length, take, replicate, length-append, length-map}
 use borrow.Author.Tests.{ne-eqb}
 use Rattle.scope.specs.Sheet.{Number, number, Clause, Gate, Sheet, sheet, mostGates, mostRules, mostWishes, All, Among, Wish, Valid}
-use Rattle.scope.specs.Reading.{Read, accepted, refused, started}
-use Rattle.circuit.specs.Lent.{Columns, rows, gateOf, gatesOf, literalsOf, clauseOf, wishesOf, Gates, Clauses, circuit}
+use Rattle.scope.specs.Causes.{Read, accepted, refused, started}
+use Rattle.circuit.specs.Lent.{Arrays, rows, gateOf, gatesOf, literalsOf, clauseOf, wishesOf, Gates, Clauses, circuit}
 use Rattle.sheet.specs.declared.tables.Tables.{Tables}
 use Rattle.scope.specs.Tables.{kindOf, leftOf, rightOf, literalCode, literalAt, Holds}
 use Rattle.scope.specs.laws.Held.{from-code}
-use Rattle.sheet.specs.Tables.{padded, pointOf, tables, outcome, lent, Sourced}
-use Rattle.sheet.specs.laws.Lent.{filled-holds}
+use Rattle.sheet.specs.Tables.{padded, pointOf, tables, outcome, asTables, Sourced}
+use Rattle.sheet.specs.laws.Accepted.{accepted-holds}
 
 -- ---- what was coded is read again
 
@@ -46,12 +46,12 @@ unfolding rows
 wishes-back a [] h = refl
 wishes-back a (w ∷ ws) (p, h) = ap₂ (λ v vs. v ∷ vs) (clause-back a w p) (wishes-back a ws h)
 
--- ---- the columns of an accepted sheet
+-- ---- the arrays of an accepted sheet
 
-pub accepted-holds : (t : Sheet) (u : Tables) (o : Read) → u ≡ outcome o → o ≡ accepted t → Holds (lent u) t
-accepted-holds t u o e f = rw (e ∙ ap outcome f) (filled-holds t)
+pub read-holds : (t : Sheet) (u : Tables) (o : Read) → u ≡ outcome o → o ≡ accepted t → Holds (asTables u) t
+read-holds t u o e f = rw (e ∙ ap outcome f) (accepted-holds t)
 
-module _ (t : Sheet) (v : Valid t) (u : Tables) (c : Holds (lent u) t) where
+module _ (t : Sheet) (v : Valid t) (u : Tables) (c : Holds (asTables u) t) where
   abbrev kinds : List ℕ
   kinds = take (u .gates) (u .kind)
 
@@ -82,8 +82,8 @@ module _ (t : Sheet) (v : Valid t) (u : Tables) (c : Holds (lent u) t) where
   length-firsts : length firsts ≡ length (t .wishes)
   length-firsts = rw (c .firsts) (length-map (t .wishes) (literalAt 0))
 
-  pub wish-columns : Columns mostWishes firsts seconds thirds
-  wish-columns = record {
+  pub wish-arrays : Arrays mostWishes firsts seconds thirds
+  wish-arrays = record {
     few = omega (arith, length-firsts, v .few-wishes);
     seconds = rw (c .seconds, c .firsts) (length-map (t .wishes) (literalAt 1) ∙ sym (length-map (t .wishes) (literalAt 0)));
     thirds = rw (c .thirds, c .firsts) (length-map (t .wishes) (literalAt 2) ∙ sym (length-map (t .wishes) (literalAt 0)));
@@ -93,7 +93,7 @@ module _ (t : Sheet) (v : Valid t) (u : Tables) (c : Holds (lent u) t) where
   gates-fit = record {
     switches = rw (c .switches) (v .switches);
     faults = rw (c .faults) (v .faults);
-    columns = record {
+    arrays = record {
       few = omega (arith, length-kinds, v .few-gates);
       seconds = rw (c .lefts, c .kinds) (length-map (t .gates) leftOf ∙ sym (length-map (t .gates) kindOf));
       thirds = rw (c .rights, c .kinds) (length-map (t .gates) rightOf ∙ sym (length-map (t .gates) kindOf));
@@ -105,7 +105,7 @@ module _ (t : Sheet) (v : Valid t) (u : Tables) (c : Holds (lent u) t) where
   rules-fit = rw (c .points, c .switches, c .faults, length-kinds) (v .rules)
 
   pub wishes-fit : Clauses (u .switches) firsts seconds thirds
-  wishes-fit = record { switches = rw (c .switches) (v .switches); columns = wish-columns; wishes = rw (wishes-are, c .switches) (v .wishes) }
+  wishes-fit = record { switches = rw (c .switches) (v .switches); arrays = wish-arrays; wishes = rw (wishes-are, c .switches) (v .wishes) }
 
   -- the sheet without its wishes
   pub circuit-is : circuit (u .switches) (u .faults) kinds lefts rights (take (u .rules) (u .rule)) ≡ sheet (t .switches) (t .faults) (t .gates) (t .rules) []
