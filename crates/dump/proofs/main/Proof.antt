@@ -1,4 +1,7 @@
-use Rattle.sheet.specs.laws.Outcomes.{within, sheet-sourced}
+-- `main` meets its contract: the counts of what was read are within the limits.
+-- Assumes nothing.
+use Rattle.scope.specs.Source.{Form}
+use Rattle.sheet.specs.laws.Outcomes.{within, sourced}
 use borrow.Author.Needs.{needs}
 use Rattle.dump.proofs.main.Statement.{statement}
 use Rattle.dump.proofs.main.Tie as tie
@@ -22,13 +25,13 @@ put-counts-requires : tie.Need-put-counts-requires
 put-counts-requires c κs = search needs
 
 put-gates-requires : tie.Need-put-gates-requires
-put-gates-requires c κs = within _ (sheet-sourced _ _ (c .before .read .ensures)) .gates
+put-gates-requires c κs = within _ (sourced (Form.sheet _) _ (c .before .read .ensures)) .gates
 
 put-rules-requires : tie.Need-put-rules-requires
-put-rules-requires c κs = within _ (sheet-sourced _ _ (c .before .before .read .ensures)) .rules
+put-rules-requires c κs = within _ (sourced (Form.sheet _) _ (c .before .before .read .ensures)) .rules
 
 put-wishes-requires : tie.Need-put-wishes-requires
-put-wishes-requires c κs = within _ (sheet-sourced _ _ (c .before .before .before .read .ensures)) .wishes
+put-wishes-requires c κs = within _ (sourced (Form.sheet _) _ (c .before .before .before .read .ensures)) .wishes
 
 returns : tie.Need-returns
 returns c = search needs

@@ -1,3 +1,5 @@
+-- `put_gates` meets its contract: the loop's place stays within the count, and the arrays hold as many.
+-- Assumes nothing.
 use Prim.Native.Nat.{_-_, _≤_}
 use borrow.Author.Needs.{needs}
 use Rattle.dump.proofs.put_gates.Statement.{statement}
