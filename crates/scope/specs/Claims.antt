@@ -5,9 +5,9 @@ use mathlib.Core.Bool.{true, false, cond}
 use mathlib.Core.List.{List, [], _∷_, _++_, map, List·Memᴰ, Perm}
 use mathlib.Core.Logic.{_↔_, _≢_}
 use mathlib.Core.Option.{none, some}
-use mathlib.Core.Path.{_≡_, sym}
+use mathlib.Core.Path.{_≡_, refl, ap, _∙_}
 use Rattle.scope.specs.Sheet.{Number, number, field, fits, Line, Clause, Gate, Sheet, sheet, sheetBytes, fieldCount, All, Valid}
-use Rattle.scope.specs.Causes.{Read, accepted, refused, lineSize, Met}
+use Rattle.scope.specs.Causes.{Read, accepted, refused, lineSize, mostBytes, Met}
 use Rattle.scope.specs.Sheets.{Printed, Begins, SheetRead, SheetRefusal}
 use Rattle.scope.specs.Sheets as sheets
 use Rattle.scope.specs.Reading.{fieldOf, lineOf, columnOf, read}
@@ -17,15 +17,15 @@ use Rattle.scope.specs.Meaning.{all, any, plans, patterns, literalTrue, 
 use Rattle.scope.specs.Typed.{Typed, Legal, formulaTrue, sheetOf, lineTests}
 use Rattle.scope.specs.Texts.{TextRead, TextRefusal}
 use Rattle.scope.specs.Parsing.{readText}
-use Rattle.scope.specs.Tables.{Tables, Holds}
+use Rattle.scope.specs.Words.{wordCount, word, held, wordsOf, Used}
+use Rattle.scope.specs.Filling.{ReadResult, readResult, IsRead}
 use Rattle.scope.specs.Writing.{TablesRefusal, TablesRead, WriteResult, written, IsWritten}
 use Rattle.scope.specs.Checking.{readTables}
-use Rattle.scope.specs.Writing as writing
 use Rattle.scope.specs.Pick.{Better}
 use Rattle.scope.specs.Rule.{Verdict, best, whole}
 use Rattle.scope.specs.Jobs.{over, task, Result, Answer, answerOf, IsAnswer, shortOf, IsShortRun, Rating, ratingOf, IsRating}
 use Rattle.scope.specs.Demands.{list, listed, Ending, Demand1, Demand2, Demand3, ShortRun, Rates}
-use Rattle.scope.specs.Program.{outputRows}
+use Rattle.scope.specs.Program.{outputRows, ListingResult, converted, IsConverted}
 use Rattle.scope.specs.laws.Given as given
 use Rattle.scope.specs.laws.Fields as fields
 use Rattle.scope.specs.laws.Lines as lines
@@ -40,8 +40,11 @@ use Rattle.scope.specs.laws.TextReads as textReads
 use Rattle.scope.specs.laws.Walked as walked
 use Rattle.scope.specs.laws.TypedSheets as typedSheets
 use Rattle.scope.specs.laws.TypedTruths as typedTruths
+use Rattle.scope.specs.laws.Words as words
 use Rattle.scope.specs.laws.TableReads as tableReads
 use Rattle.scope.specs.laws.Forms as forms
+use Rattle.scope.specs.laws.Filling as filling
+use Rattle.scope.specs.laws.Conversion as conversion
 
 -- ---- reading, for lines of n fields
 
@@ -140,37 +143,68 @@ passes-as-written v s l m = typedTruths.passes-written v (typedSheets.rules-on-s
 pub wishes-as-written : (v : Typed) (plan : ℕ) → map (kept (sheetOf v) plan) (sheetOf v .wishes) ≡ map (λ w. any w (literalTrue (switchOn (sheetOf v) plan))) (v .wishes)
 wishes-as-written = typedTruths.wishes-written
 
+-- ---- tables as words
+
+-- the words of a valid sheet hold it
+pub words-hold : (t : Sheet) → Valid t → held (wordsOf t) ≡ t
+words-hold = words.held-words
+
+pub words-fill : (t : Sheet) → Valid t → length (wordsOf t) ≡ wordCount
+words-fill t v = words.length-words t (v .few-gates) (v .few-rules) (v .few-wishes)
+
+-- and those of a valid sheet that words hold are these words, up to their counts
+pub words-kept : (u : List ℕ) → Valid (held u) → (i : ℕ) → Used u i → word (wordsOf (held u)) i ≡ word u i
+words-kept u v i = words.words-kept u v
+
+-- what is read into words: a refusal leaves them as they were
+pub read-refused : (R : Read → Type 0) (lent : List ℕ) (b : ReadResult) → IsRead R lent b → b .number ≢ 0 → b .tables ≡ lent
+read-refused R lent b g = rw (g .given) (filling.refused-kept (g .read) lent)
+
+-- and else they are those of the accepted sheet
+pub read-filled : (x : Form) (lent : List ℕ) (b : ReadResult) → IsRead (ReadFrom x) lent b → b .number ≡ 0 → (t : Sheet) × ReadFrom x (accepted t) × (b .tables ≡ wordsOf t)
+read-filled x lent b g = rw (g .given) (filling.accepted-words x (g .read) lent (g .is-read))
+
 -- ---- writing
 
 -- what is read from tables is what TablesRead says: the valid sheet that they hold, or their first line at fault
-pub tables-read : (n : ℕ) → 3 ≤ n → (u : Tables) (r : Read) → (readTables n u ≡ r) ↔ TablesRead n u r
+pub tables-read : (n : ℕ) → 3 ≤ n → (u : List ℕ) (r : Read) → (readTables n (held u) ≡ r) ↔ TablesRead n (held u) r
 tables-read = tableReads.tables-iff
 
-pub tables-give : {B : Type 0} (n : ℕ) → 3 ≤ n → (u : Tables) (f : Read → B) (b : B) → (b ≡ f (readTables n u)) ↔ Gives (TablesRead n u) f b
-tables-give n wide u = given.given-iff (TablesRead n u) (readTables n u) (tables-read n wide u)
+pub tables-give : {B : Type 0} (n : ℕ) → 3 ≤ n → (u : List ℕ) (f : Read → B) (b : B) → (b ≡ f (readTables n (held u))) ↔ Gives (TablesRead n (held u)) f b
+tables-give n wide u = given.given-iff (TablesRead n (held u)) (readTables n (held u)) (tables-read n wide u)
 
 -- they are refused by 4, 5 or 6, and 4 names line 1
-pub tables-refusal : (n : ℕ) (u : Tables) {c place column : ℕ} → TablesRead n u (refused c place column) → TablesRefusal c place column
+pub tables-refusal : (n : ℕ) (t : Sheet) {c place column : ℕ} → TablesRead n t (refused c place column) → TablesRefusal c place column
 tables-refusal = tableReads.refusal-number
 
-module _ (n : ℕ) (u : Tables) (out : List ℕ) (w : WriteResult) (is : IsWritten n u out w) where
+module _ (n : ℕ) (u out : List ℕ) (w : WriteResult) (is : IsWritten n u out w) where
   -- a refusal returns the length 0 and changes no byte of the buffer
   pub write-refused : w .number ≢ 0 → (w .length ≡ 0) × (w .buffer ≡ out)
   write-refused = rw (is .given) (tableReads.refused-kept n (is .read) out)
 
   -- 13 comes last: exactly if the tables hold a valid sheet, and the buffer is shorter
-  pub write-room : 3 ≤ n → (w .number ≡ 13) ↔ ((t : Sheet) × Holds u t × Valid t × (length out < length (sheetBytes n t)))
-  write-room wide = rw (is .given) (tableReads.no-room n u out (is .is-read), tableReads.left-out-of n u out wide (is .is-read))
+  pub write-room : 3 ≤ n → (w .number ≡ 13) ↔ (Valid (held u) × (length out < length (sheetBytes n (held u))))
+  write-room wide = rw (is .given) (tableReads.no-room n (held u) out (is .is-read), tableReads.left-out-of n (held u) out wide (is .is-read))
 
-  -- reading a written sheet gives those tables, up to their counts
-  pub written-read : w .number ≡ 0 → (t : Sheet) × Holds u t × SheetRead n (take (w .length) (w .buffer)) (accepted t)
+  -- reading a written sheet gives the sheet that the tables hold
+  pub written-read : w .number ≡ 0 → SheetRead n (take (w .length) (w .buffer)) (accepted (held u))
   written-read e =
-      let (t, h, v, s) = tableReads.written-sheet n u out (is .is-read) (rw (is .given) at e) in
-      (t, h, sheets.accepted {t = t} (rw (is .given) s) v)
+      let (v, s) = tableReads.written-sheet n (held u) out (is .is-read) (rw (is .given) at e) in
+      sheets.accepted {t = held u} (rw (is .given) s) v
 
--- and writing the tables of an accepted sheet, where there is room, gives that sheet, byte for byte
-pub read-written : (n : ℕ) (s : List ℕ) (t : Sheet) → SheetRead n s (accepted t) → (u : Tables) → Holds u t → (out : List ℕ) → length s ≤ length out → IsWritten n u out (written 0 0 0 (length s) (over s out))
-read-written n s t (sheets.accepted b v) u h out room = record { read = accepted t; is-read = writing.accepted h v; given = sym (rw b (tableReads.written-in n t out (rw b at room))) }
+  -- and so, into words, those tables up to their counts (`words-kept`)
+  pub written-filled : w .number ≡ 0 → (lent : List ℕ) → IsRead (SheetRead n (take (w .length) (w .buffer))) lent (readResult 0 0 0 (wordsOf (held u)))
+  written-filled e lent = record { read = accepted (held u); is-read = written-read e; given = refl }
+
+-- writing the tables of an accepted sheet, where there is room, gives that sheet, byte for byte
+pub read-written : (n : ℕ) (s : List ℕ) (t : Sheet) → SheetRead n s (accepted t) → (u : List ℕ) → held u ≡ t → (out : List ℕ) → length s ≤ length out → IsWritten n u out (written 0 0 0 (length s) (over s out))
+read-written = filling.sheet-written
+
+-- and so does writing the words that it was read into
+pub filled-written : (s lent : List ℕ) (b : ReadResult) → IsRead (SheetRead fieldCount s) lent b → b .number ≡ 0 → (out : List ℕ) → length s ≤ length out → IsWritten fieldCount (b .tables) out (written 0 0 0 (length s) (over s out))
+filled-written s lent b g e out room =
+    let (t, h, i) = read-filled (Form.sheet s) lent b g e in
+    read-written fieldCount s t h (b .tables) (ap held i ∙ words-hold t (forms.form-source (Form.sheet s) (accepted t) h .valid t refl)) out room
 
 -- ---- the demands
 
@@ -198,15 +232,15 @@ pub read-once : (x : Form) (r q : Read) → ReadFrom x r → ReadFrom x q → r 
 read-once = forms.read-once
 
 -- the same tables, with the same list or plan, give the same answer, whatever form each is read from
-module _ (x y : Form) (t v : Sheet) (from-x : ReadFrom x (accepted t)) (from-y : ReadFrom y (accepted v)) (u : Tables) (hold-t : Holds u t) (hold-v : Holds u v) where
+module _ (x y : Form) (t v : Sheet) (from-x : ReadFrom x (accepted t)) (from-y : ReadFrom y (accepted v)) (same : wordsOf t ≡ wordsOf v) where
   pub same-answer : (lent : List ℕ) (a b : Answer) → IsAnswer (ReadFrom x) lent a → IsAnswer (ReadFrom y) lent b → a ≡ b
-  same-answer lent = forms.same-given x y t v from-x from-y u hold-t hold-v (λ r. answerOf r lent)
+  same-answer lent = forms.same-given x y t v from-x from-y same (λ r. answerOf r lent)
 
   pub same-short-run : (l : List ℕ) (a b : Result) → IsShortRun (ReadFrom x) l a → IsShortRun (ReadFrom y) l b → a ≡ b
-  same-short-run l = forms.same-given x y t v from-x from-y u hold-t hold-v (λ r. shortOf r l)
+  same-short-run l = forms.same-given x y t v from-x from-y same (λ r. shortOf r l)
 
   pub same-rating : (p : ℕ) (a b : Rating) → IsRating (ReadFrom x) p a → IsRating (ReadFrom y) p b → a ≡ b
-  same-rating p = forms.same-given x y t v from-x from-y u hold-t hold-v (λ r. ratingOf r p)
+  same-rating p = forms.same-given x y t v from-x from-y same (λ r. ratingOf r p)
 
 -- along a full run each candidate is strictly worse than the one before, and the answer is the last of them
 pub candidates-worse : (t : Sheet) (i j : ℕ) → i < j → j ≤ length (list t) → (p q : ℕ) → best (task t) (take i (list t)) ≡ some p → best (task t) (take j (list t)) ≡ some q → Better (cost t) p q
@@ -220,3 +254,13 @@ answer-last t = rules.answer-last (task t)
 -- every figure that it prints fits its five columns
 pub output-fits : (r : Read) → Source r → All (λ r. All (λ x. fits x ≡ true) (r .fields)) (outputRows r)
 output-fits = outputs.output-fits
+
+-- what a typed text is converted into is never longer than a sheet may be
+pub converted-fits : (r : Read) → Source r → length (converted r) ≤ mostBytes fieldCount
+converted-fits = conversion.converted-most
+
+-- and where the text is accepted, the sheet that is left in the buffer is read as the same
+pub converted-read : (s out : List ℕ) (b : ListingResult) → IsConverted (TextRead s) out b → mostBytes fieldCount ≤ length out → (t : Sheet) → TextRead s (accepted t) → SheetRead fieldCount (take (b .length) (b .buffer)) (accepted t)
+converted-read s out b g room t h =
+    let e : g .read ≡ accepted t = forms.read-once (Form.text s) (g .read) (accepted t) (g .is-read) h in
+    sheets.accepted {t = t} (rw (g .given, e) (conversion.converted-sheet t out room)) (forms.form-source (Form.text s) (accepted t) h .valid t refl)

@@ -11,7 +11,8 @@ pub mod Pick
 pub mod Rule
 pub mod Jobs
 pub mod Demands
-pub mod Tables
+pub mod Words
+pub mod Filling
 pub mod Writing
 pub mod Program
 -- compute what Sheets, Texts and Writing say (`sheet-read`, `text-read` and `tables-read` in Claims); nothing above rests on them

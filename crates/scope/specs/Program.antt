@@ -5,7 +5,7 @@ use mathlib.Core.Bool.{Bool, cond}
 use mathlib.Core.List.{List, [], _∷_, _++_}
 use lib.Dec.{eqb, ltb}
 use lib.ListN.{length, take, replicate}
-use Rattle.scope.specs.Sheet.{Clause, Sheet, Number, plus, fieldsBytes, fieldCount, mostSwitches, mostWishes}
+use Rattle.scope.specs.Sheet.{Clause, Sheet, Number, plus, fieldsBytes, sheetBytes, fieldCount, mostSwitches, mostWishes}
 use Rattle.scope.specs.Causes.{Read, accepted, refused, lineSize, mostBytes}
 use Rattle.scope.specs.Source.{Gives}
 use Rattle.scope.specs.Meaning.{bits, kept}
@@ -84,11 +84,7 @@ sheetInput input = take (suc (mostBytes fieldCount)) input
 abbrev pub textInput : List ℕ → List ℕ
 textInput input = take (suc mostText) input
 
--- ---- the listing put into a lent buffer: what comes after it keeps its content, and one that may be too short is left as it was
-
--- the bytes of the longest listing: A, a line for each switch, wish and pattern that there may be, and Z
-abbrev pub mostOutput : ℕ
-mostOutput = (mostSwitches + mostWishes + room + 2) * lineSize outputFields
+-- ---- bytes put into a lent buffer: what comes after them keeps its content, and a buffer that may be too short is left as it was
 
 pub record ListingResult : Type 0 where
   pub length : ℕ
@@ -97,9 +93,32 @@ pub record ListingResult : Type 0 where
 abbrev pub listingResult : ℕ → List ℕ → ListingResult
 listingResult n out = record { length = n; buffer = out }
 
+-- the bytes s, which are never more than `most`
+abbrev pub placed : (most : ℕ) → (s out : List ℕ) → ListingResult
+placed most s out = cond (ltb (length out) most) (listingResult 0 out) (listingResult (length s) (over s out))
+
+-- ---- the listing
+
+-- the bytes of the longest: A, a line for each switch, wish and pattern that there may be, and Z
+abbrev pub mostOutput : ℕ
+mostOutput = (mostSwitches + mostWishes + room + 2) * lineSize outputFields
+
 unfoldable pub listingOf : Read → List ℕ → ListingResult
-listingOf r out = cond (ltb (length out) mostOutput) (listingResult 0 out) (listingResult (length (output r)) (over (output r) out))
+listingOf r out = placed mostOutput (output r) out
 
 -- b is what is returned and left in the buffer; R says what is read
 abbrev pub IsListing : (R : Read → Type 0) → (out : List ℕ) → ListingResult → Type 0
 IsListing R out b = Gives R (λ r. listingOf r out) b
+
+-- ---- a typed text as a sheet: the sheet that it stands for, or the listing of its refusal
+
+unfoldable pub converted : Read → List ℕ
+converted (accepted t) = sheetBytes fieldCount t
+converted (refused c place column) = output (refused c place column)
+
+unfoldable pub convertedOf : Read → List ℕ → ListingResult
+convertedOf r out = placed (mostBytes fieldCount) (converted r) out
+
+-- b is what is returned and left in the buffer; R says what is read
+abbrev pub IsConverted : (R : Read → Type 0) → (out : List ℕ) → ListingResult → Type 0
+IsConverted R out b = Gives R (λ r. convertedOf r out) b

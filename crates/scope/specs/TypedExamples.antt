@@ -6,7 +6,7 @@ use mathlib.Core.Option.{none}
 use mathlib.Core.Path.{_≡_, refl}
 use lib.ListN.{replicate}
 use Rattle.scope.specs.Text.{bytes, lines}
-use Rattle.scope.specs.Sheet.{Gate, sheet, number, decimal, field, fieldsBytes, All}
+use Rattle.scope.specs.Sheet.{Gate, sheet, number, decimal, field, fieldsBytes, text, body, All}
 use Rattle.scope.specs.Causes.{Read, accepted, refused}
 use Rattle.scope.specs.Meaning.{bits, truths, truth, passes, keeps, broken, switchOn, kept, cost}
 use Rattle.scope.specs.Typed.{operators, point, gatesOf, allGates, allPoints, known, ruleTests, wishTests, sheetOf, lineTests}
@@ -16,7 +16,7 @@ use Rattle.scope.specs.Rule.{best, missed, short, next, rule}
 use Rattle.scope.specs.Jobs.{Answer, answered, refusal, found, answerOf, IsAnswer, shortOf, IsShortRun, rated, ratingOf, IsRating}
 use Rattle.scope.specs.Source.{Gives}
 use Rattle.scope.specs.Texts.{TextRead}
-use Rattle.scope.specs.Program.{each, rowsBytes, outputRows, output, textInput}
+use Rattle.scope.specs.Program.{each, rowsBytes, outputRows, output, converted, textInput}
 use Rattle.scope.specs.Claims.{text-read, text-gives}
 use Rattle.scope.specs.laws.Alls.{all-imply}
 
@@ -95,3 +95,17 @@ listing-computed = refl
 
 pub printed : Gives (TextRead (textInput sample)) output listing
 printed = text-gives (textInput sample) output listing .0 listing-computed
+
+-- ---- the third program: the sheet that a text stands for, or the listing of its refusal
+abbrev pub conversions : List (List ℕ × List ℕ)
+conversions =
+    (sample, lines ("H    2    2    0" ∷ "O    1    2    0" ∷ "O    3    4    0" ∷ "O    5    6    0" ∷ "R    7    0    0" ∷ "W   -1    0    0" ∷ "W   -2    0    0" ∷ "Z    7    0    0" ∷ []))
+    ∷ (bytes "switches 1", lines ("A   12   11    0" ∷ "Z    1    0    0" ∷ []))
+    ∷ []
+
+conversions-computed : All (λ e. e .1 ≡ converted (readText (textInput (e .0)))) conversions
+unfolding converted readText walk step move operandDone numberDone nestedMore nested atEnd firstLine lineTests sheetOf ruleTests wishTests known allGates allPoints gatesOf point operators body text output outputRows rowsBytes fieldsBytes field decimal each
+conversions-computed = (refl, (refl, tt))
+
+pub converted-right : All (λ e. Gives (TextRead (textInput (e .0))) converted (e .1)) conversions
+converted-right = all-imply (λ e. e .1 ≡ converted (readText (textInput (e .0)))) (λ e. Gives (TextRead (textInput (e .0))) converted (e .1)) (λ e. text-gives (textInput (e .0)) converted (e .1) .0) conversions conversions-computed

@@ -27,8 +27,10 @@ pub mod Walked
 pub mod TextReads
 pub mod TypedSheets
 pub mod TypedTruths
-pub mod Writing
-pub mod Held
 pub mod Entries
+pub mod Words
+pub mod Writing
 pub mod TableReads
 pub mod Forms
+pub mod Filling
+pub mod Conversion

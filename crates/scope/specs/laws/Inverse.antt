@@ -231,7 +231,7 @@ module _ (n : ℕ) (wide : 3 ≤ n) where
   rule-takes a f gs vs p k h l i = ((rw (is-between k h), (lt-ltb (length vs) mostRules l, (rw (plus-point (a + f + length gs) p i) (zeros-replicate (n - 1)), tt))), refl)
 
   -- the literal fields of a wish, and the unused ones
-  wish-parts : (w : Clause) → length w ≤ mostLiterals → (take mostLiterals (filled n w) ≡ w ++ replicate (mostLiterals - length w) (plus 0)) × (drop mostLiterals (filled n w) ≡ replicate (n - mostLiterals) (plus 0))
+  pub wish-parts : (w : Clause) → length w ≤ mostLiterals → (take mostLiterals (filled n w) ≡ w ++ replicate (mostLiterals - length w) (plus 0)) × (drop mostLiterals (filled n w) ≡ replicate (n - mostLiterals) (plus 0))
   wish-parts w h =
       let l : length (w ++ replicate (mostLiterals - length w) (plus 0)) ≡ mostLiterals = omega (arith, length-append w (replicate (mostLiterals - length w) (plus 0)), length-replicate (mostLiterals - length w) (plus 0)) in
       let i : mostLiterals - length w + (n - mostLiterals) ≡ n - length w = omega arith in
