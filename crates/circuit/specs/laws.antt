@@ -1,5 +1,5 @@
 -- what is proved of the definitions
-pub mod Arrays
+pub mod Gates
 pub mod Points
 pub mod Patterns
 pub mod Literals

@@ -1,20 +1,23 @@
 // Points: the truth of switches, faults and gates.
-use crate::Pattern;
-use crate::Plan;
-ghost use mathlib.Core.List.{[]};
+use words::Pattern;
+use words::Plan;
+use words::Words;
+use words::convert::wide;
+use words::counts::counts_of;
+use words::gate::gate_at;
+use words::letter;
 ghost use mathlib.Core.Path.{_≡_};
-ghost use Prim.Native.Nat.{_+_, _≤_};
-ghost use lib.ListN.{length};
-ghost use Rattle.scope.specs.Sheet.{mostSwitches, mostFaults, Among};
+ghost use Prim.Native.Nat.{_≤_};
+ghost use Rattle.scope.specs.Sheet.{Sheet, mostSwitches, mostFaults, points, Among, Valid};
+ghost use Rattle.scope.specs.Words.{held};
 ghost use Rattle.scope.specs.Meaning.{bits, nth};
 ghost use Rattle.scope.specs.Meaning as meaning;
-ghost use Rattle.circuit.specs.Lent.{circuit, Gates};
 ghost use Rattle.circuit.specs.Steps.{decidesOf};
 
-// The letters of gates; every other one is an or.
-const NOT: u8 = b'N';
+// The kinds of gates that are told apart; the third is an or.
+const NOT: u32 = letter::NOT as u32;
 
-const AND: u8 = b'A';
+const AND: u32 = letter::AND as u32;
 
 // Digit p of n binary digits of a number, the first highest.
 fn digit(number: u32, n: u32, p: u32) -> bool
@@ -40,67 +43,37 @@ fn fault_on(pattern: Pattern, f: u32, k: u32) -> bool
     digit(pattern.0, f, k)
 }
 
-fn wide(n: u32) -> usize
-    ensures { λ r. ⌜ r ≡ n ⌝ }
-{
-    n as usize
-}
-
 // Whether the first point of an and or an or decides: a false one an and, a true one an or.
-fn decides(k: u8, x: bool) -> bool
-    ensures { λ r. ⌜ r ≡ decidesOf k x ⌝ }
+fn decides(kind: u32, x: bool) -> bool
+    ensures { λ r. ⌜ r ≡ decidesOf kind x ⌝ }
 {
-    if k == AND { !x } else { x }
+    if kind == AND { !x } else { x }
 }
 
 // The truth of a point by recursion over the gates; the second point of a gate is looked at only if
-// the first does not decide. The slices stand behind references, so that a call passes one word for
-// each: a slice by itself is copied at every call.
-fn truth_at(
-    kind: &&[u8],
-    left: &&[u32],
-    right: &&[u32],
-    a: u32,
-    f: u32,
-    plan: Plan,
-    pattern: Pattern,
-    point: u32,
-) -> bool
-    requires { ⌜ Gates a f (now (now kind)) (now (now left)) (now (now right)) × Among (a + f + length (now (now kind))) point ⌝ }
-    ensures { λ r. ⌜ r ≡ meaning.truth (circuit a f (now (now (kind .entry))) (now (now (left .entry))) (now (now (right .entry))) []) (plan .0) (pattern .0) point ⌝ }
+// the first does not decide.
+pub fn truth(sheet: &Words, plan: Plan, pattern: Pattern, point: u32) -> bool
+    ghost { Sheet }
+    requires { λ t. ⌜ held (now sheet) ≡ t ⌝ }
+    requires { λ t. ⌜ Valid t × Among (points t) point ⌝ }
+    ensures { λ t r. ⌜ r ≡ meaning.truth t (plan .0) (pattern .0) point ⌝ }
 {
+    let counts = counts_of(sheet);
+    let a = counts.switches;
     if point <= a {
         return switch_on(plan, a, point);
     }
-    let inputs = a + f;
+    let inputs = a + counts.faults;
     if point <= inputs {
-        return fault_on(pattern, f, point - a);
+        return fault_on(pattern, counts.faults, point - a);
     }
-    let i = wide(point - inputs - 1);
-    let k = kind[i];
-    if k == NOT {
-        return !truth_at(kind, left, right, a, f, plan, pattern, left[i]);
+    let gate = gate_at(sheet, wide(point - inputs - 1));
+    if gate.kind == NOT {
+        return !truth(sheet, plan, pattern, gate.left);
     }
-    let x = truth_at(kind, left, right, a, f, plan, pattern, left[i]);
-    if decides(k, x) {
+    let x = truth(sheet, plan, pattern, gate.left);
+    if decides(gate.kind, x) {
         return x;
     }
-    truth_at(kind, left, right, a, f, plan, pattern, right[i])
-}
-
-// The truth of a point of lent gates.
-pub fn truth(
-    kind: &[u8],
-    left: &[u32],
-    right: &[u32],
-    a: u32,
-    f: u32,
-    plan: Plan,
-    pattern: Pattern,
-    point: u32,
-) -> bool
-    requires { ⌜ Gates a f (now kind) (now left) (now right) × Among (a + f + length (now kind)) point ⌝ }
-    ensures { λ r. ⌜ r ≡ meaning.truth (circuit a f (now (kind .entry)) (now (left .entry)) (now (right .entry)) []) (plan .0) (pattern .0) point ⌝ }
-{
-    truth_at(&kind, &left, &right, a, f, plan, pattern, point)
+    truth(sheet, plan, pattern, gate.right)
 }

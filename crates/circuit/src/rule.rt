@@ -1,33 +1,31 @@
 // Rules: whether a plan passes a pattern, and the first pattern that it does not pass.
-use crate::Pattern;
-use crate::Plan;
 use crate::point::truth;
+use words::Pattern;
+use words::Plan;
+use words::Words;
+use words::convert::wide;
+use words::counts::counts_of;
+use words::rule::rule_at;
 ghost use mathlib.Core.Path.{_≡_};
-ghost use Prim.Native.Nat.{_+_, _^_, _<_};
-ghost use lib.ListN.{length};
-ghost use Rattle.scope.specs.Sheet.{All, Among};
+ghost use Prim.Native.Nat.{_^_, _<_};
+ghost use Rattle.scope.specs.Sheet.{Sheet, Valid};
+ghost use Rattle.scope.specs.Words.{held};
 ghost use Rattle.scope.specs.Meaning as meaning;
 ghost use Rattle.scope.specs.Rule.{missed};
 ghost use Rattle.scope.specs.Jobs.{task};
-ghost use Rattle.circuit.specs.Lent.{circuit, Gates, missedOf};
+ghost use Rattle.circuit.specs.Answers.{missedOf};
 
 // Whether all rules are true.
-pub fn passes(
-    kind: &[u8],
-    left: &[u32],
-    right: &[u32],
-    rules: &[u32],
-    a: u32,
-    f: u32,
-    plan: Plan,
-    pattern: Pattern,
-) -> bool
-    requires { ⌜ Gates a f (now kind) (now left) (now right) × All (Among (a + f + length (now kind))) (now rules) ⌝ }
-    ensures { λ r. ⌜ r ≡ meaning.passes (circuit a f (now (kind .entry)) (now (left .entry)) (now (right .entry)) (now (rules .entry))) (plan .0) (pattern .0) ⌝ }
+pub fn passes(sheet: &Words, plan: Plan, pattern: Pattern) -> bool
+    ghost { Sheet }
+    requires { λ t. ⌜ held (now sheet) ≡ t ⌝ }
+    requires { λ t. ⌜ Valid t ⌝ }
+    ensures { λ t r. ⌜ r ≡ meaning.passes t (plan .0) (pattern .0) ⌝ }
 {
+    let end = wide(counts_of(sheet).rules);
     let mut i = 0;
-    while i < rules.len() {
-        if !truth(kind, left, right, a, f, plan, pattern, rules[i]) {
+    while i < end {
+        if !truth(sheet, plan, pattern, rule_at(sheet, i)) {
             return false;
         }
         i += 1;
@@ -49,22 +47,16 @@ pub enum Missed {
     At(Pattern),
 }
 
-pub fn first_missed(
-    kind: &[u8],
-    left: &[u32],
-    right: &[u32],
-    rules: &[u32],
-    a: u32,
-    f: u32,
-    plan: Plan,
-) -> Missed
-    requires { ⌜ Gates a f (now kind) (now left) (now right) × All (Among (a + f + length (now kind))) (now rules) ⌝ }
-    ensures { λ r. ⌜ missedOf r ≡ missed (task (circuit a f (now (kind .entry)) (now (left .entry)) (now (right .entry)) (now (rules .entry)))) (plan .0) ⌝ }
+pub fn first_missed(sheet: &Words, plan: Plan) -> Missed
+    ghost { Sheet }
+    requires { λ t. ⌜ held (now sheet) ≡ t ⌝ }
+    requires { λ t. ⌜ Valid t ⌝ }
+    ensures { λ t r. ⌜ missedOf r ≡ missed (task t) (plan .0) ⌝ }
 {
-    let end = power(f);
+    let end = power(counts_of(sheet).faults);
     let mut i: u32 = 0;
     while i < end {
-        if !passes(kind, left, right, rules, a, f, plan, Pattern(i)) {
+        if !passes(sheet, plan, Pattern(i)) {
             return Missed::At(Pattern(i));
         }
         i += 1;

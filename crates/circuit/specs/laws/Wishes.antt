@@ -1,43 +1,37 @@
--- Wishes in arrays, one by one: what those from wish i on cost. Assumes nothing.
+-- Wishes among the words of a sheet, one by one: what those from wish i on cost. Assumes nothing.
 use Prim.Native.Nat.{ℕ, suc, _+_, _≤_, _<_}
+use native.Mathlib.Numerals.{add-one}
 use native.Mathlib.Omega.{arith}
 use mathlib.Core.Bool.{true, false, cond}
 use mathlib.Core.List.{List, [], _∷_}
-use mathlib.Core.Path.{_≡_, ap, subst, _∙_}
-use lib.ListN.{length, getD, drop, drop-of-length-le}
-use Rattle.scope.specs.Sheet.{Clause, All, Wish}
-use Rattle.scope.specs.Meaning.{kept, cost}
+use mathlib.Core.Path.{_≡_, _∙_}
+use lib.ListN.{drop, drop-of-length-le}
+use lib.Seq.{drop-cons}
+use Rattle.scope.specs.Sheet.{Sheet, sheet}
+use Rattle.scope.specs.Meaning.{switchOn, kept, costs}
+use Rattle.scope.specs.Words.{word, wishAt, held}
 use Rattle.scope.specs.laws.Wishes.{cost-most, cost-one, cost-together}
-use Rattle.circuit.specs.Lent.{clauseOf, wishesOf, wishSheet, Arrays}
-use Rattle.scope.specs.laws.Alls.{all-at}
-use Rattle.circuit.specs.laws.Arrays.{length-rows, row-at, row-drop}
+use Rattle.words.specs.laws.Held.{held-wishes, held-wish}
 
-module _ {n : ℕ} {first second third : List ℕ} (h : Arrays n first second third) where
-  abbrev ws : List Clause
-  ws = wishesOf first second third
+module _ (s : List ℕ) where
+  abbrev t : Sheet
+  t = held s
 
-  -- wish i, counted from 0
-  abbrev wish : ℕ → Clause
-  wish i = clauseOf (getD first i 0) (getD second i 0) (getD third i 0)
+  -- what the wishes from i on cost
+  abbrev pub from : (plan i : ℕ) → ℕ
+  from plan i = costs (t .switches) (t .faults) (t .gates) (t .rules) plan (drop i (t .wishes))
 
-  pub wish-at : (a i : ℕ) → i < length first → All (Wish a) ws → Wish a (wish i)
-  wish-at a i l w = subst (Wish a) (row-at clauseOf first second third [] i (h .seconds) (h .thirds) l) (all-at (Wish a) ws [] i w (omega (arith, length-rows clauseOf first second third (h .seconds) (h .thirds))))
-
-  module _ (a plan i : ℕ) where
-    abbrev from : ℕ → ℕ
-    from j = cost (wishSheet a (drop j ws)) plan
-
+  module _ (plan i : ℕ) where
     -- wish i and those after it cost together what they cost apart
-    cost-next : i < length first → from i ≡ cond (kept (wishSheet a []) plan (wish i)) 0 1 + from (i + 1)
-    cost-next l =
-        rw (row-drop clauseOf first second third i (h .seconds) (h .thirds) l) (cost-together a 0 [] [] plan (wish i ∷ []) (drop (i + 1) ws)
-        ∙ ap (λ m. m + from (i + 1)) (cost-one a 0 [] [] plan (wish i)))
+    cost-next : i < word s 4 → from plan i ≡ cond (kept t plan (wishAt s i)) 0 1 + from plan (i + 1)
+    unfolding kept switchOn
+    cost-next h = rw (add-one i, drop-cons (t .wishes) i [] (omega (arith, held-wishes s)), held-wish s i h) (cost-together (t .switches) (t .faults) (t .gates) (t .rules) plan (wishAt s i ∷ []) (drop (suc i) (t .wishes)) ∙ rw cost-one)
 
-    pub cost-kept : i < length first → kept (wishSheet a []) plan (wish i) ≡ true → from i ≡ from (i + 1)
-    cost-kept l e = let n = rw e at (cost-next l) in omega (arith, n)
+    pub cost-kept : i < word s 4 → kept t plan (wishAt s i) ≡ true → from plan i ≡ from plan (i + 1)
+    cost-kept h e = let n = rw e at (cost-next h) in omega (arith, n)
 
-    pub cost-more : i < length first → kept (wishSheet a []) plan (wish i) ≡ false → from i ≡ suc (from (i + 1))
-    cost-more l e = let n = rw e at (cost-next l) in omega (arith, n)
+    pub cost-more : i < word s 4 → kept t plan (wishAt s i) ≡ false → from plan i ≡ suc (from plan (i + 1))
+    cost-more h e = let n = rw e at (cost-next h) in omega (arith, n)
 
-    pub cost-end : length first ≤ i → from i ≡ 0
-    cost-end l = rw (drop-of-length-le ws {i = i} (omega (arith, length-rows clauseOf first second third (h .seconds) (h .thirds)))) (omega (arith, cost-most (wishSheet a []) plan))
+    pub cost-end : word s 4 ≤ i → from plan i ≡ 0
+    cost-end h = rw (drop-of-length-le (t .wishes) {i = i} (omega (arith, held-wishes s))) (omega (arith, cost-most (sheet (t .switches) (t .faults) (t .gates) (t .rules) []) plan))

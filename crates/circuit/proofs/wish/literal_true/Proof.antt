@@ -3,8 +3,8 @@ use mathlib.Core.Bool.{not}
 use mathlib.Core.Path.{ap}
 use borrow.Author.Tests.{eq-eqb, ne-eqb}
 use borrow.Author.Needs.{needs}
-use Rattle.scope.specs.Meaning.{keeps, switchOn}
-use Rattle.circuit.specs.Lent.{literalsOf}
+use Rattle.scope.specs.Meaning.{keeps}
+use Rattle.circuit.specs.Steps.{literalsOf}
 use Rattle.circuit.specs.laws.Literals.{literal-switch, keeps-literal}
 use Rattle.circuit.proofs.wish.literal_true.Statement.{statement}
 use Rattle.circuit.proofs.wish.literal_true.Tie as tie
@@ -19,12 +19,10 @@ switch-on-requires c κs =
     (search needs, literal-switch (s .args .code) (c .if1 .left) (s .args .a) (s .pre .1))
 
 returns-2 : tie.Need-returns-2
-unfolding switchOn
 returns-2 c =
     rw (keeps-literal (c .before .before .before .args .code) (c .before .before .if1 .left), eq-eqb _ _ (c .if2 .taken)) (ap not (c .before .switch-on .ensures))
 
 returns-3 : tie.Need-returns-3
-unfolding switchOn
 returns-3 c =
     rw (keeps-literal (c .before .before .before .args .code) (c .before .before .if1 .left), ne-eqb _ _ (c .if2 .left)) (c .before .switch-on .ensures)
 

@@ -8,28 +8,28 @@ use mathlib.Core.Path.{_≡_, sym, _∙_}
 use lib.ListN.{length, getD}
 use borrow.Author.Needs.{needs}
 use borrow.Author.Count.{below-more}
+use Rattle.scope.specs.Words.{held}
 use Rattle.scope.specs.Meaning.{passes}
+use Rattle.scope.specs.Jobs.{task}
 use Rattle.scope.specs.laws.Rules.{passes-all}
-use Rattle.circuit.specs.Lent.{circuit}
-use Rattle.search.specs.Table.{table}
-use Rattle.search.specs.laws.Steps.{passes-not}
+use Rattle.search.specs.laws.Plans.{passes-not}
 use Rattle.search.proofs.best.passes_all.Statement.{statement}
 use Rattle.search.proofs.best.passes_all.Tie as tie
 
 abbrev Inv-loop : tie.InvT-loop
-Inv-loop kind left right rules a f list plan i₀ i = (i ≤ length list) × ((k : ℕ) → k < i → passes (circuit a f kind left right rules) (plan .0) (getD list k 0) ≡ true)
+Inv-loop sheet list plan i₀ i = (i ≤ length list) × ((k : ℕ) → k < i → passes (held sheet) (plan .0) (getD list k 0) ≡ true)
 
 abbrev μ-loop : tie.MeasureT-loop
-μ-loop kind left right rules a f list plan i₀ i = length list - i
+μ-loop sheet list plan i₀ i = length list - i
 
 loop-holds : tie.Need-loop-holds Inv-loop μ-loop
 loop-holds c = (search needs, λ k h. absurd (omega arith))
 
-mul-t10 : tie.Need-mul-t10 Inv-loop μ-loop
-mul-t10 c = search needs
+mul-t5 : tie.Need-mul-t5 Inv-loop μ-loop
+mul-t5 c = search needs
 
-shared-slice-read-t13 : tie.Need-shared-slice-read-t13 Inv-loop μ-loop
-shared-slice-read-t13 c = search needs
+shared-slice-read-t8 : tie.Need-shared-slice-read-t8 Inv-loop μ-loop
+shared-slice-read-t8 c = search needs
 
 passes-requires : tie.Need-passes-requires Inv-loop μ-loop
 passes-requires c κs = search needs
@@ -37,9 +37,9 @@ passes-requires c κs = search needs
 returns : tie.Need-returns Inv-loop μ-loop
 returns c =
     let s = c .before .before .before .before in
-    let a = s .before .before .before .before .before .before .args in
-    let t = circuit (a .a) (a .f) (a .kind .now) (a .left .now) (a .right .now) (a .rules .now) in
-    λ ws. sym (passes-not (table t ws) (a .plan .0) (a .list .now) (s .loop .i) (c .before .before .before .loop-test .taken) (sym (c .before .passes .ensures) ∙ not-true _ (c .if1 .taken)))
+    let a = s .before .before .args in
+    let t = task (held (a .sheet .now)) in
+    sym (passes-not t (a .plan .0) (a .list .now) (s .loop .i) (c .before .before .before .loop-test .taken) (sym (c .before .passes .ensures) ∙ not-true _ (c .if1 .taken)))
 
 add-i : tie.Need-add-i Inv-loop μ-loop
 add-i c = search needs
@@ -54,9 +54,9 @@ loop-again c =
 
 returns-2 : tie.Need-returns-2 Inv-loop μ-loop
 returns-2 c =
-    let a = c .before .before .before .before .before .before .before .args in
-    let t = circuit (a .a) (a .f) (a .kind .now) (a .left .now) (a .right .now) (a .rules .now) in
-    λ ws. sym (passes-all (table t ws) (a .plan .0) (a .list .now) (λ i h. c .before .loop .inv .1 i (omega arith)))
+    let a = c .before .before .before .args in
+    let t = task (held (a .sheet .now)) in
+    sym (passes-all t (a .plan .0) (a .list .now) (λ i h. c .before .loop .inv .1 i (omega arith)))
 
 pub passes-all-spec : {M : Type 1} → statement M
 passes-all-spec =
@@ -65,8 +65,8 @@ passes-all-spec =
     Inv-loop
     μ-loop
     loop-holds
-    mul-t10
-    shared-slice-read-t13
+    mul-t5
+    shared-slice-read-t8
     passes-requires
     returns
     add-i

@@ -1,32 +1,15 @@
--- The table of plans and patterns that lent arrays make, and what the answers of the search say. Assumes nothing.
-use Prim.Native.Nat.{ℕ, _+_, _≤_}
+-- What the answers of the search say. Assumes nothing.
+use Prim.Native.Nat.{ℕ, _≤_}
 use mathlib.Core.Bool.{cond}
 use mathlib.Core.List.{List, []}
 use mathlib.Core.Option.{Option, none, some}
 use mathlib.Core.Path.{_≡_}
 use lib.ListN.{length, take}
-use Rattle.scope.specs.Sheet.{Clause, Sheet, All, Among}
-use Rattle.scope.specs.Meaning.{plans, patterns, passes, cost}
 use Rattle.scope.specs.Rule.{Task, Verdict, noRoom, verdictOf, run, rule}
 use Rattle.scope.specs.Jobs.{over}
-use Rattle.circuit.specs.Lent.{Gates, Clauses, circuit, wishesOf, wishSheet}
 use Rattle.search.specs.declared.best.Best.{Best}
 use Rattle.search.specs.declared.best.Best.the-variants.{Nothing, At}
 use Rattle.search.specs.declared.run.Run.{Run}
-
--- The plans and patterns of a sheet, with these wishes.
-abbrev pub table : Sheet → List Clause → Task
-table t ws = record { passes = passes t; cost = cost (wishSheet (t .switches) ws); plans = plans t; patterns = patterns t }
-
--- That of lent arrays.
-abbrev pub tableOf : (a f : ℕ) (kind left right rules first second third : List ℕ) → Task
-tableOf a f kind left right rules first second third = table (circuit a f kind left right rules) (wishesOf first second third)
-
--- arrays that a sheet may have
-pub record Lent (a f : ℕ) (kind left right rules first second third : List ℕ) : Type 0 where
-  pub gates : Gates a f kind left right
-  pub points : All (Among (a + f + length kind)) rules
-  pub wishes : Clauses a first second third
 
 -- ---- the best plan, with its cost
 
@@ -34,6 +17,7 @@ abbrev pub bestOf : Best → Option ℕ
 bestOf Nothing = none
 bestOf (At p c) = some (p .0)
 
+-- its cost is what the plan costs
 abbrev pub Priced : Task → Best → Type 0
 Priced t Nothing = Unit {0}
 Priced t (At p c) = c ≡ t .cost (p .0)
