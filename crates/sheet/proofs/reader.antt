@@ -1,3 +1,3 @@
-pub mod Held
 pub mod Literals
+pub mod Entries
 pub mod Lines

@@ -1,17 +1,6 @@
-// The reader of planning sheets. `read` turns bytes into tables, or into the number, place and column of the first cause to turn the sheet
-// down; its promise, for every input, is that the tables are `outcome` (specs/Tables) of what the scope's `read` gives for the bytes.
-// The crate rests on `scope` alone. Beside Tables, specs/ has the steps of the code and the laws that callers cite.
-mod allowed;
-pub mod causes;
-pub mod field;
-pub mod line;
+// The reader of planning sheets. `read` fills the words of a sheet that it is lent, or tells the number, place and column of the first
+// cause to turn the sheet down; its promise, for every input, is that this is what the scope's SheetRead says of the bytes.
+// The crate rests on `causes`, `line`, `words` and `scope`.
 mod reader;
-pub mod tables;
 
-pub use allowed::both;
-pub use causes::MALFORMED;
-pub use line::AND;
-pub use line::NOT;
-pub use line::OR;
 pub use reader::read;
-pub use tables::Tables;

@@ -3,81 +3,97 @@ use Prim.Native.Nat.{ℕ, zero, suc, _+_, _*_, _%_, _≤_, _<_}
 use native.Mathlib.Numerals.{add-one}
 use native.Mathlib.Omega.{arith}
 use mathlib.Core.Bool.{Bool, true, false, not, _&&_}
-use mathlib.Core.List.{List}
+use mathlib.Core.List.{List, []}
 use mathlib.Core.Logic.{_≢_}
 use mathlib.Core.Option.{Option, none, some}
-use mathlib.Core.Path.{_≡_, refl, sym, ap, _∙_}
+use mathlib.Core.Path.{_≡_, refl, sym, ap, subst, _∙_}
 use lib.Dec.{eqb, leb, ltb}
-use lib.ListN.{length, take, drop, replicate}
-use borrow.Author.Tests.{eqb-true, ltb-true}
-use Rattle.scope.specs.Sheet.{Number, Sheet, Letter, H, N, A, O, R, W, Z, mostGates, mostRules, mostWishes, mostLiterals}
+use lib.ListN.{length, take, drop}
+use borrow.Author.Tests.{eqb-true}
+use Rattle.scope.specs.Sheet.{Number, Sheet, sheet, Letter, H, N, A, O, R, W, Z, mostLiterals}
 use Rattle.scope.specs.Sheet as scope
-use Rattle.scope.specs.Causes.{literals, zeros, tests, lengthOk, lineSize, lineCount, mostBytes, Met}
+use Rattle.scope.specs.Causes.{literals, zeros, tests, started, lengthOk, lineSize, lineCount, mostBytes, Met, accepted, refused}
+use Rattle.scope.specs.Sheets.{SheetRead}
 use Rattle.scope.specs.Reading.{when, joined, testsOf, add, lineAt, columnAt, testsAt, read}
+use Rattle.scope.specs.Words.{wordsOf}
 use Rattle.scope.specs.laws.Scans.{before, Passed, size as wrong-size, line}
 use Rattle.scope.specs.laws.Tests.{clash, both, up-to}
 use Rattle.scope.specs.laws.Refusals.{cause-refuses, line-within, column-of, no-cause-accepts}
-use Rattle.sheet.specs.Tables.{counts, acceptedTables, refusedTables, outcome}
-use Rattle.sheet.specs.Lines.{letterFrom, numbersFrom, lineFrom, LineRead}
-use Rattle.sheet.specs.Steps.{Counted, Held, Few, Fault, RoomFor, Room, Sized}
-use Rattle.sheet.specs.laws.Bounds.{Bounds, before-bounds}
-use Rattle.sheet.specs.laws.Held.{tablesFrom, nothing-held, held-tables}
-use Rattle.sheet.specs.declared.line.Line.{Line}
-use Rattle.sheet.specs.declared.tables.Counts.{Counts}
-use Rattle.sheet.proofs.causes.Tests.{joined-none}
+use Rattle.scope.specs.laws.Inverse.{read-iff}
+use Rattle.scope.specs.laws.SheetReads.{sheet-iff}
+use Rattle.words.specs.Entries.{countsAt, Within, Kept}
+use Rattle.words.specs.Tests.{Fault}
+use Rattle.words.specs.Told.{Fills}
+use Rattle.words.specs.laws.Sheets.{counts-words}
+use Rattle.words.specs.laws.Told.{fills-accepted, fills-refused}
+use Rattle.words.specs.declared.counts.Counts.{Counts}
+use Rattle.line.specs.Lines.{letterFrom, numbersFrom, lineFrom, LineRead}
+use Rattle.line.specs.declared.line.Line.{Line}
+use Rattle.causes.specs.Counts.{Counted, Few}
+use Rattle.causes.specs.laws.Bounds.{Bounds, before-bounds}
+use Rattle.line.specs.laws.Lines.{joined-none}
+use Rattle.sheet.specs.Steps.{SuitsAs, Suits, Takes, Sized}
 
--- ---- what a line that passes finds room for
+-- ---- what a line that passes finds
 
--- nothing is put in before the first line
-none-before : (n k : ℕ) (s : List ℕ) → k ≡ 0 → (length (before n s k .gates) ≡ 0) × (length (before n s k .rules) ≡ 0) × (length (before n s k .wishes) ≡ 0)
+-- no entries are held before the first line
+none-before : (n k : ℕ) (s : List ℕ) → k ≡ 0 → (before n s k .gates ≡ []) × (before n s k .rules ≡ []) × (before n s k .wishes ≡ [])
 unfolding before
 none-before n zero s e = (refl, refl, refl)
 none-before n (suc k) s e = absurd (omega arith)
 
-module _ (t : Sheet) (c : Counts) (k : ℕ) (last : Bool) (z : k ≡ 0 → (length (t .gates) ≡ 0) × (length (t .rules) ≡ 0) × (length (t .wishes) ≡ 0)) (b : Bounds t) (n : Counted t c) where
-  room-for : (l : Letter) (xs : List Number) → Met (tests t k last l xs) → RoomFor c l xs
+module _ (t : Sheet) (k : ℕ) (last : Bool) (z : k ≡ 0 → (t .gates ≡ []) × (t .rules ≡ []) × (t .wishes ≡ [])) (b : Bounds t) where
+  suits-as : (l : Letter) (xs : List Number) → Met (tests t k last l xs) → SuitsAs t l xs
   unfolding tests
-  room-for H xs (e, _) = let (p, q, r) = z (eqb-true k 0 (both (eqb k 0) (not last) e .0)) in (n .gates ∙ p, n .rules ∙ q, n .wishes ∙ r)
-  room-for N xs (_, (e, _)) = rw (n .gates) (ltb-true (length (t .gates)) mostGates e)
-  room-for A xs (_, (e, _)) = rw (n .gates) (ltb-true (length (t .gates)) mostGates e)
-  room-for O xs (_, (e, _)) = rw (n .gates) (ltb-true (length (t .gates)) mostGates e)
-  room-for R xs (_, (e, _)) = rw (n .rules) (ltb-true (length (t .rules)) mostRules e)
-  room-for W xs (_, (e, (f, _))) = rw (n .wishes, n .switches) (ltb-true (length (t .wishes)) mostWishes e, b .switches, both (literals (t .switches) (take mostLiterals xs)) (zeros (drop mostLiterals xs)) f .0)
-  room-for Z xs m = tt
+  suits-as H xs (e, _) = z (eqb-true k 0 (both (eqb k 0) (not last) e .0))
+  suits-as N xs m = tt
+  suits-as A xs m = tt
+  suits-as O xs m = tt
+  suits-as R xs m = tt
+  suits-as W xs (_, (_, (e, _))) = record { switches = t .switches; few = b .switches; right = both (literals (t .switches) (take mostLiterals xs)) (zeros (drop mostLiterals xs)) e .0 }
+  suits-as Z xs m = tt
 
-  room : (o : Option scope.Line) → Met (testsOf t k last o) → Room c o
-  room none m = tt
-  room (some l) m = room-for (l .letter) (l .fields) m
+  suits : (o : Option scope.Line) → Met (testsOf t k last o) → Suits t o
+  suits none m = tt
+  suits (some l) m = suits-as (l .letter) (l .fields) m
 
 -- and that it is formed
 formed-line : (t : Sheet) (k : ℕ) (last : Bool) (c : Option Letter) (xs : List Number) (f : Bool) → Met (testsOf t k last (joined c (when f xs))) → joined c (when f xs) ≡ joined c (some xs)
 formed-line t k last c xs true m = refl
 formed-line t k last c xs false m = let p : Met (testsOf t k last none) = rw (joined-none c) at m in clash (p .0) refl
 
--- ---- the lines before line k are taken in
+-- ---- the lines before line k pass, and the words are those of what they say
 
-pub record Reached (n : ℕ) (s : List ℕ) (k : ℕ) (c : Counts) (kind left right rule first second third : List ℕ) : Type 0 where
+pub record Reached (n : ℕ) (s : List ℕ) (k : ℕ) (u : List ℕ) : Type 0 where
   pub within : k ≤ lineCount n s
-  pub held : Held (before n s k) c kind left right rule first second third
+  pub kept : Kept (before n s k) u
   pub passed : (j : ℕ) → j < k → Passed n s j
 
-pub begun : (n : ℕ) (s : List ℕ) → Reached n s 0 (counts 0 0 0 0 0) (replicate mostGates 0) (replicate mostGates 0) (replicate mostGates 0) (replicate mostRules 0) (replicate mostWishes 0) (replicate mostWishes 0) (replicate mostWishes 0)
+pub begun : (n : ℕ) (s u : List ℕ) → u ≡ wordsOf (started 0 0) → Reached n s 0 u
 unfolding before
-begun n s = record { within = omega arith; held = nothing-held; passed = λ j h. absurd (omega arith) }
+begun n s u e = record { within = omega arith; kept = λ _. e; passed = λ j h. absurd (omega arith) }
 
 pub line-fits : (n k size count : ℕ) (s : List ℕ) → Sized n s size count → k < count → k * size + lineSize n ≤ length s
 line-fits n k size count s z h = rw (z .size) (line-within n s k (rw (z .count) at h))
 
-module _ (n k : ℕ) (s : List ℕ) (c : Counts) (kind left right rule first second third : List ℕ) (h : Reached n s k c kind left right rule first second third) where
+module _ (n k : ℕ) (s u : List ℕ) (h : Reached n s k u) where
   bounds : Bounds (before n s k)
   bounds = before-bounds n s k (h .passed)
 
-  pub few : Few c
-  few = let m = h .held .counts in record { switches = omega (arith, m .switches, bounds .switches); faults = omega (arith, m .faults, bounds .faults); gates = omega (arith, m .gates, bounds .gates) }
+  words : u ≡ wordsOf (before n s k)
+  words = h .kept (record { gates = bounds .gates; rules = bounds .rules; wishes = bounds .wishes })
+
+  module _ (c : Counts) (e : c ≡ countsAt u) where
+    counted : Counted (before n s k) c
+    counted = rw (e, words, counts-words) (record { switches = refl; faults = refl; gates = refl; rules = refl; wishes = refl })
+
+    pub few : Few c
+    few = let m = counted in record { switches = omega (arith, m .switches, bounds .switches); faults = omega (arith, m .faults, bounds .faults); gates = omega (arith, m .gates, bounds .gates) }
 
 -- line l of the code, which is line k, and f, the number of its first unmet test
-module _ (n k size count f : ℕ) (s : List ℕ) (c : Counts) (kind left right rule first second third : List ℕ) (l : Line) (z : Sized n s size count) (h : Reached n s k c kind left right rule first second third) (b : k < count)
+module _ (n k size count f : ℕ) (s u : List ℕ) (c : Counts) (l : Line) (z : Sized n s size count) (h : Reached n s k u) (b : k < count)
     (e : LineRead n (take (lineSize n) (drop (k * size) s)) l)
+    (m : c ≡ countsAt u)
     (p : (t : Sheet) → Counted t c → Fault (testsOf t k (eqb (k + 1) count) (lineFrom n l)) f) where
   read-as : lineFrom n l ≡ lineAt n s k
   unfolding lineAt
@@ -85,16 +101,17 @@ module _ (n k size count f : ℕ) (s : List ℕ) (c : Counts) (kind left right r
 
   told : Fault (testsAt n s (before n s k) k) f
   unfolding testsAt
-  told = rw (← read-as, ← z .count, ← add-one k) (p (before n s k) (h .held .counts))
+  told = rw (← read-as, ← z .count, ← add-one k) (p (before n s k) (counted n k s u h c m))
 
   column-as : l .column ≡ columnAt n s k
   unfolding columnAt
   column-as = rw (z .size) at (e .column)
 
-  pub turned-down : f ≢ 0 → refusedTables f (k + 1) (l .column) ≡ outcome (read n s)
+  pub turned-down : f ≢ 0 → Fills (SheetRead n s) (record { number = f; place = k + 1; column = l .column }) u
   turned-down q =
       let w : k < lineCount n s = rw (z .count) at b in
-      rw (cause-refuses n s (line k (z .right) w (h .passed) (told .first q) (column-of n s k w)), add-one, column-as)
+      let r : read n s ≡ refused f (k + 1) (l .column) = rw (add-one, column-as) (cause-refuses n s (line k (z .right) w (h .passed) (told .first q) (column-of n s k w))) in
+      fills-refused (SheetRead n s) f (k + 1) (l .column) u q (sheet-iff n (z .least) s (refused f (k + 1) (l .column)) .0 r)
 
   -- the line as it is taken in
   abbrev o : Option scope.Line
@@ -103,30 +120,31 @@ module _ (n k size count f : ℕ) (s : List ℕ) (c : Counts) (kind left right r
   passes : f ≡ 0 → (Passed n s k) × (lineAt n s k ≡ o)
   unfolding testsAt lineFrom
   passes q =
-      let m : Passed n s k = told .met q in
-      (m, sym read-as ∙ formed-line (before n s k) k (eqb (suc k) (lineCount n s)) (letterFrom (l .letter)) (numbersFrom n (l .numbers)) (eqb (l .column) 0) (rw (← read-as) at m))
+      let i : Passed n s k = told .met q in
+      (i, sym read-as ∙ formed-line (before n s k) k (eqb (suc k) (lineCount n s)) (letterFrom (l .letter)) (numbersFrom n (l .numbers)) (eqb (l .column) 0) (rw (← read-as) at i))
 
-  pub found-room : f ≡ 0 → Room c o
+  pub suited : f ≡ 0 → Suits (before n s k) o
   unfolding testsAt
-  found-room q =
-      let (m, i) = passes q in
-      rw (← i) (room (before n s k) c k (eqb (suc k) (lineCount n s)) (none-before n k s) (bounds n k s c kind left right rule first second third h) (h .held .counts) (lineAt n s k) m)
+  suited q =
+      let (i, j) = passes q in
+      rw (← j) (suits (before n s k) k (eqb (suc k) (lineCount n s)) (none-before n k s) (bounds n k s u h) (lineAt n s k) i)
 
-  pub reached-next : (r : Counts) (k' l' m' r' x' y' z' : List ℕ) → f ≡ 0 → ((t : Sheet) → Held t c kind left right rule first second third → Held (add t o) r k' l' m' r' x' y' z') → Reached n s (k + 1) r k' l' m' r' x' y' z'
+  pub reached-next : (v : List ℕ) → f ≡ 0 → Takes o u v → Reached n s (k + 1) v
   unfolding before
-  reached-next r k' l' m' r' x' y' z' q g =
-      let (m, i) = passes q in
+  reached-next v q g =
+      let (i, j) = passes q in
       let w : k < lineCount n s = rw (z .count) at b in
-      rw add-one (record { within = omega arith; held = rw i (g (before n s k) (h .held)); passed = up-to k (h .passed) m })
+      rw add-one (record { within = omega arith; kept = rw j (g (before n s k) (suited q) (h .kept)); passed = up-to k (h .passed) i })
 
-pub taken-in : (n k size count : ℕ) (s : List ℕ) (c : Counts) (kind left right rule first second third : List ℕ) → Sized n s size count → count ≤ k → Reached n s k c kind left right rule first second third → tablesFrom c kind left right rule first second third ≡ outcome (read n s)
-taken-in n k size count s c kind left right rule first second third z b h =
+pub taken-in : (n k size count : ℕ) (s u : List ℕ) → Sized n s size count → count ≤ k → Reached n s k u → Fills (SheetRead n s) (record { number = 0; place = 0; column = 0 }) u
+taken-in n k size count s u z b h =
     let e : k ≡ lineCount n s = omega (arith, h .within, z .count) in
-    held-tables (before n s k) c kind left right rule first second third (h .held) ∙ rw (no-cause-accepts n s record { size = z .right; lines = λ j g. h .passed j (omega arith) }) (ap (λ j. acceptedTables (before n s j)) e)
+    let r : read n s ≡ accepted (before n s k) = rw e (no-cause-accepts n s record { size = z .right; lines = λ j g. h .passed j (omega arith) }) in
+    fills-accepted (SheetRead n s) (before n s k) u (sheet-iff n (z .least) s (accepted (before n s k)) .0 r) (read-iff n (z .least) s (before n s k) .0 r .1) (words n k s u h)
 
 -- the test of the length as the code makes it
 pub length-told : (n m : ℕ) {whole right : Bool} → right ≡ (ltb 0 m && whole) → whole ≡ (leb m (mostBytes n) && eqb (m % lineSize n) 0) → right ≡ lengthOk n m
 length-told n m e f = e ∙ ap (λ w. ltb 0 m && w) f
 
-pub wrong-length : (n : ℕ) (s : List ℕ) → lengthOk n (length s) ≡ false → refusedTables 1 0 0 ≡ outcome (read n s)
-wrong-length n s e = rw (cause-refuses n s (wrong-size e))
+pub wrong-length : (n : ℕ) (s u : List ℕ) → 3 ≤ n → lengthOk n (length s) ≡ false → Fills (SheetRead n s) (record { number = 1; place = 0; column = 0 }) u
+wrong-length n s u w e = fills-refused (SheetRead n s) 1 0 0 u (λ i. omega arith) (sheet-iff n w s (refused 1 0 0) .0 (cause-refuses n s (wrong-size e)))

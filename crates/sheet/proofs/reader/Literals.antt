@@ -7,13 +7,14 @@ use mathlib.Core.Path.{_≡_, refl, sym, ap, _∙_}
 use lib.Dec.{leb, ltb}
 use lib.ListN.{getD}
 use borrow.Author.Tests.{leb-true}
-use Rattle.scope.specs.Sheet.{Number, plus, mostSwitches}
+use Rattle.scope.specs.Sheet.{Number, plus, Clause, mostSwitches}
 use Rattle.scope.specs.Causes.{is, literal, zeros, literals, clause, at}
 use Rattle.scope.specs.laws.Tests.{both}
 use Rattle.scope.specs.laws.Steps.{is-plus}
-use Rattle.scope.specs.Tables.{literalCode, literalAt}
-use Rattle.sheet.specs.Columns.{numberFrom}
-use Rattle.sheet.specs.declared.field.Number as made
+use Rattle.scope.specs.Words.{literalCode, literalAt, wishWords}
+use Rattle.line.specs.Columns.{numberFrom}
+use Rattle.sheet.specs.Steps.{AreLiterals}
+use Rattle.line.specs.declared.field.Number as made
 
 zeros-at : (xs : List Number) (i : ℕ) → zeros xs ≡ true → plus 0 ≡ at xs i
 unfolding zeros
@@ -43,9 +44,13 @@ literals-small a (x ∷ xs) zero e = by-zero a x xs (λ t. x .size ≤ a) e (λ 
 literals-small a (x ∷ xs) (suc i) e = by-zero a x xs (λ t. at xs i .size ≤ a) e (λ _ z. omega (arith, ap (λ y. y .size) (zeros-at xs i z))) (λ _ l. literals-small a xs i l)
 
 -- x is field i, and r its code
-module _ (a i : ℕ) (xs : List Number) (x : made.Number) (l : literals a xs ≡ true) (e : numberFrom x ≡ at xs i) where
-  pub code-fits : a ≤ mostSwitches → x .size ≤ mostSwitches
-  code-fits h = omega (arith, literals-small a xs i l, ap (λ y. y .size) e)
+module _ (xs : List Number) (l : AreLiterals xs) (i : ℕ) (x : made.Number) (e : numberFrom x ≡ at xs i) where
+  pub code-fits : x .size ≤ 99
+  code-fits = omega (arith, literals-small (l .switches) xs i (l .right), l .few, ap (λ y. y .size) e)
 
   pub code-is : {r : ℕ} → r ≡ literalCode (numberFrom x) → r ≡ literalAt i (clause xs)
-  code-is c = c ∙ ap literalCode (e ∙ sym (clause-at a xs i l))
+  code-is c = c ∙ ap literalCode (e ∙ sym (clause-at (l .switches) xs i (l .right)))
+
+-- the words of the wish
+pub codes-are : {x y z : ℕ} (w : Clause) → x ≡ literalAt 0 w → y ≡ literalAt 1 w → z ≡ literalAt 2 w → x ∷ y ∷ z ∷ [] ≡ wishWords w
+codes-are w e f g = rw (e, f, g)

@@ -26,19 +26,20 @@ div-read-lines c = search needs
 
 read-lines-requires : tie.Need-read-lines-requires
 read-lines-requires c κs =
-    let s = c .before .before .before .before .before in
+    let s = c .before .before .before .before .before .before in
     let a = s .args in
-    let z = c .before .before .before .line-size .ensures in
-    record { least = s .pre .0; most = s .pre .1; size = z; count = rw z; right = sym (length-told (a .n) (length (a .s .now)) (c .before .both2 .ensures) (rw z at (c .before .before .both .ensures))) ∙ c .if1 .taken }
+    let z = c .before .before .before .before .line-size .ensures in
+    (record { least = s .pre .0; most = s .pre .1; size = z; count = rw z; right = sym (length-told (a .n) (length (a .s .now)) (c .before .before .both2 .ensures) (rw z at (c .before .before .before .both .ensures))) ∙ c .before .if1 .taken }, s .pre .2)
 
 returns : tie.Need-returns
 returns c = search needs
 
-refused-requires : tie.Need-refused-requires
-refused-requires c κs = search needs
-
 returns-2 : tie.Need-returns-2
-returns-2 c = let a = c .before .before .before .before .before .before .args in c .refused .ensures ∙ wrong-length (a .n) (a .s .now) (sym (length-told (a .n) (length (a .s .now)) (c .before .before .both2 .ensures) (rw (c .before .before .before .before .line-size .ensures) at (c .before .before .before .both .ensures))) ∙ c .before .if1 .left)
+returns-2 c =
+    let s = c .before .before .before .before .before in
+    let a = s .args in
+    let told = length-told (a .n) (length (a .s .now)) (c .before .both2 .ensures) (rw (c .before .before .before .line-size .ensures) at (c .before .before .both .ensures)) in
+    wrong-length (a .n) (a .s .now) _ (s .pre .0) (sym told ∙ c .if1 .left)
 
 pub read-form-spec : {M : Type 1} → statement M
 read-form-spec =
@@ -52,5 +53,4 @@ read-form-spec =
     div-read-lines
     read-lines-requires
     returns
-    refused-requires
     returns-2)
