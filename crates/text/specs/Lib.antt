@@ -1,7 +1,6 @@
 -- steps of the code, which no promise of an exported call names
-pub mod Look
-pub mod Words
-pub mod Formulas
 pub mod Lines
+pub mod Wishes
+pub mod Texts
 -- proved, for the proofs of the code
 pub mod laws

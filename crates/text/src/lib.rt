@@ -1,13 +1,10 @@
-// The reader of typed texts. `read` turns bytes into the tables of the sheet that a text stands for, or into the number and place of the
-// first cause to turn it down; its promise, for every input, is that the tables are `outcome` (sheet, specs/Tables) of what the scope's
-// `readText` gives for the bytes. The crate rests on `scope`, and on `sheet` for the tables.
-mod formula;
+// The reader of typed texts. `read` fills the lent words with the sheet that a text stands for, or returns the number and place of the
+// first cause to turn it down; its promise, for every input, is what the scope's `TextRead` says of the bytes. The crate rests on
+// `scope`, on `words` for the sheet, and on `formula` for the bytes, words, numbers and formulas of a text.
 mod head;
 mod lines;
-mod reader;
 mod rule;
 mod whole;
 mod wish;
-mod words;
 
 pub use whole::read;

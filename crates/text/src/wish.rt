@@ -1,32 +1,34 @@
 // Wish lines.
 ghost use mathlib.Core.Bool.{false};
-ghost use mathlib.Core.List.{List};
 ghost use mathlib.Core.Path.{_≡_};
 ghost use Prim.Native.Nat.{_+_, _≤_, _<_};
 ghost use lib.ListN.{length};
-ghost use Rattle.scope.specs.Sheet.{number, mostLiterals};
-ghost use Rattle.scope.specs.Typed.{Formula, mostText, mostNumber};
-ghost use Rattle.scope.specs.Tables.{literalCode};
-ghost use Rattle.text.specs.Look as place;
-ghost use Rattle.text.specs.Lines.{wishLetter, noWish, WithLiteral, LiteralRead, LiteralsRead, named, oneLiteral, moreLiterals, WishKept, WithWish, WishLineRead, Begun, WishesTold, WishesRead, Further, NoMore};
-use crate::formula::Points;
+ghost use Rattle.scope.specs.Sheet.{mostLiterals};
+ghost use Rattle.scope.specs.Typed.{mostText};
+ghost use Rattle.formula.specs.Look as place;
+ghost use Rattle.text.specs.Lines.{wishLetter, NoMore};
+ghost use Rattle.text.specs.Wishes.{noLiterals, WithLiteral, LiteralRead, LiteralsRead, named, oneLiteral, moreLiterals, WishesTold, WishesRead, WithWish};
 use crate::lines::HEAD_LINES;
 use crate::lines::Lines;
 use crate::lines::first_of;
 use crate::lines::goes_on;
 use crate::lines::stuck;
-use crate::reader::look;
-use crate::reader::past_byte;
-use crate::words::named_at;
-use crate::words::word_at;
-use sheet::both;
-use sheet::causes::FIELDS;
-use sheet::causes::LIMIT;
-use sheet::causes::MOST_WISHES as FULL;
-use sheet::causes::test;
-use sheet::tables;
-use sheet::tables::Counts;
-use sheet::tables::MOST_WISHES;
+use formula::parsed::Points;
+use formula::reader::look;
+use formula::reader::past_byte;
+use formula::token::named_at;
+use formula::token::word_at;
+use words::Words;
+use words::convert::both;
+use words::convert::wide;
+use words::limit::MOST_LITERALS;
+use words::limit::MOST_WISHES;
+use words::literal::literal_code;
+use words::refusal::FIELDS;
+use words::refusal::LIMIT;
+use words::refusal::test;
+use words::wish::Wish;
+use words::wish::put_wish;
 
 const WISH: u32 = b'w' as u32;
 
@@ -36,24 +38,22 @@ const SPACE: u32 = b' ' as u32;
 
 const FEED: u32 = b'\n' as u32;
 
-const MOST_LITERALS: u32 = 3;
-
-// The literals so far, each as the tables have it, and whether all are of switches on the sheet; or, if they are bad, the place where no
+// The literals of a wish so far, each as its code, and whether all are of switches on the sheet; or, if they are bad, the place where no
 // legal text goes on.
-pub struct Wish {
+pub struct Literals {
     pub bad: bool,
     pub at: usize,
-    pub count: u32,
+    pub count: usize,
     pub first: u32,
     pub second: u32,
     pub third: u32,
     pub known: bool,
 }
 
-fn no_wish(at: usize) -> Wish
-    ensures { λ r. ⌜ r ≡ noWish at ⌝ }
+fn no_literals(at: usize) -> Literals
+    ensures { λ r. ⌜ r ≡ noLiterals at ⌝ }
 {
-    Wish {
+    Literals {
         bad: true,
         at,
         count: 0,
@@ -64,19 +64,8 @@ fn no_wish(at: usize) -> Wish
     }
 }
 
-// A literal k is 2k, and -k is 2k + 1.
-fn literal_code(minus: bool, size: u32) -> u32
-    requires { ⌜ size ≤ mostNumber ⌝ }
-    ensures { λ r. ⌜ r ≡ literalCode (number minus size) ⌝ }
-{
-    if minus {
-        return size * 2 + 1;
-    }
-    size * 2
-}
-
 // The literals with one more, which ends before `at`.
-fn with_literal(w: Wish, at: usize, code: u32, known: bool) -> Wish
+fn with_literal(w: Literals, at: usize, code: u32, known: bool) -> Literals
     requires { ⌜ w .count < mostLiterals ⌝ }
     ensures { λ r. ⌜ WithLiteral w at code known r ⌝ }
 {
@@ -98,20 +87,20 @@ fn with_literal(w: Wish, at: usize, code: u32, known: bool) -> Wish
 }
 
 // The literals with one more, whose name begins at `at`; whether a `!` stands before it.
-fn named_literal(s: &[u8], at: usize, minus: bool, switches: u32, w: Wish) -> Wish
+fn named_literal(s: &[u8], at: usize, minus: bool, switches: u32, w: Literals) -> Literals
     requires { ⌜ (at ≤ length (now s)) × (w .count < mostLiterals) ⌝ }
     ensures { λ r. ⌜ LiteralRead (named minus) (now (s .entry)) switches at w r ⌝ }
 {
     let k = named_at(s, at, b"s", false);
     if k.bad {
-        return no_wish(k.at);
+        return no_literals(k.at);
     }
     let code = literal_code(minus, k.value);
     with_literal(w, k.at, code, k.value <= switches)
 }
 
 // The literals with one more, which begins at `at`.
-fn add_literal(s: &[u8], at: usize, switches: u32, w: Wish) -> Wish
+fn add_literal(s: &[u8], at: usize, switches: u32, w: Literals) -> Literals
     requires { ⌜ (at ≤ length (now s)) × (w .count < mostLiterals) ⌝ }
     ensures { λ r. ⌜ LiteralRead oneLiteral (now (s .entry)) switches at w r ⌝ }
 {
@@ -120,7 +109,7 @@ fn add_literal(s: &[u8], at: usize, switches: u32, w: Wish) -> Wish
 }
 
 // Whether one more literal comes next.
-fn more_literals(s: &[u8], w: Wish) -> bool
+fn more_literals(s: &[u8], w: Literals) -> bool
     ensures { λ r. ⌜ r ≡ moreLiterals (now (s .entry)) w ⌝ }
 {
     if w.bad {
@@ -134,11 +123,11 @@ fn more_literals(s: &[u8], w: Wish) -> bool
 }
 
 // One to three literals.
-fn literals_at(s: &[u8], at: usize, switches: u32) -> Wish
+fn literals_at(s: &[u8], at: usize, switches: u32) -> Literals
     requires { ⌜ at ≤ length (now s) ⌝ }
     ensures { λ r. ⌜ LiteralsRead (now (s .entry)) switches at r × (moreLiterals (now (s .entry)) r ≡ false) ⌝ }
 {
-    let none = Wish {
+    let none = Literals {
         bad: false,
         at,
         count: 0,
@@ -154,40 +143,15 @@ fn literals_at(s: &[u8], at: usize, switches: u32) -> Wish
     w
 }
 
-// Puts wish n into its arrays, if there is room.
-fn keep_wish(
-    first: &mut [u32; MOST_WISHES],
-    second: &mut [u32; MOST_WISHES],
-    third: &mut [u32; MOST_WISHES],
-    n: u32,
-    x: u32,
-    y: u32,
-    z: u32,
-)
-    ensures { λ r. ⌜ WishKept n x y z (now (first .entry)) (now (second .entry)) (now (third .entry)) (now (first .exit)) (now (second .exit)) (now (third .exit)) ⌝ }
-{
-    if FULL <= n {
-        return;
-    }
-    let counts = Counts {
-        switches: 0,
-        faults: 0,
-        gates: 0,
-        rules: 0,
-        wishes: n,
-    };
-    tables::put_wish(first, second, third, counts, x, y, z);
-}
-
 // The lines with one more wish, w, and its line feed.
-fn with_wish(l: Lines, w: Wish) -> Lines
+fn with_wish(l: Lines, w: Literals) -> Lines
     requires { ⌜ (l .rules + l .wishes ≤ mostText) × (w .at ≤ mostText) ⌝ }
     ensures { λ r. ⌜ WithWish l w r ⌝ }
 {
     let n = l.wishes;
-    let fault = test(LIMIT, n < FULL, test(FIELDS, w.known, 0));
+    let fault = test(LIMIT, n < MOST_WISHES, test(FIELDS, w.known, 0));
     let before = l.fault;
-    let line = l.rules as usize + n as usize + HEAD_LINES + 1;
+    let line = wide(l.rules) + wide(n) + HEAD_LINES + 1;
     Lines {
         bad: false,
         at: w.at + 1,
@@ -199,16 +163,9 @@ fn with_wish(l: Lines, w: Wish) -> Lines
 }
 
 // One more line, which begins as a wish does.
-fn wish_line(
-    s: &[u8],
-    l: Lines,
-    c: Points,
-    first: &mut [u32; MOST_WISHES],
-    second: &mut [u32; MOST_WISHES],
-    third: &mut [u32; MOST_WISHES],
-) -> Lines
-    requires { ⌜ Begun (now s) c l × (place.look (now s) (l .at) ≡ wishLetter) ⌝ }
-    ensures { λ r. ⌜ WishLineRead (now (s .entry)) c l r (now (first .entry)) (now (second .entry)) (now (third .entry)) (now (first .exit)) (now (second .exit)) (now (third .exit)) ⌝ }
+fn wish_line(s: &[u8], l: Lines, c: Points, sheet: &mut Words) -> Lines
+    requires { ⌜ WishesTold (now s) c l (now sheet) × (place.look (now s) (l .at) ≡ wishLetter) ⌝ }
+    ensures { λ r. ⌜ WishesRead (now (s .entry)) c r (now (sheet .exit)) × (r .bad ≡ false → l .at < r .at) ⌝ }
 {
     let at = l.at;
     let name = word_at(s, at, b"wish ");
@@ -223,25 +180,23 @@ fn wish_line(
     if look(s, end) != FEED {
         return stuck(end);
     }
-    keep_wish(first, second, third, l.wishes, w.first, w.second, w.third);
+    let wish = Wish {
+        first: w.first,
+        second: w.second,
+        third: w.third,
+    };
+    put_wish(sheet, wish);
     with_wish(l, w)
 }
 
 // All wish lines.
-pub fn wish_lines(
-    s: &[u8],
-    rules: Lines,
-    c: Points,
-    first: &mut [u32; MOST_WISHES],
-    second: &mut [u32; MOST_WISHES],
-    third: &mut [u32; MOST_WISHES],
-) -> Lines
-    requires { ⌜ Begun (now s) c rules ⌝ }
-    ensures { λ r. ⌜ ((xs : List Formula) → WishesTold (now (s .entry)) c xs rules (now (first .entry)) (now (second .entry)) (now (third .entry)) → WishesRead (now (s .entry)) c xs r (now (first .exit)) (now (second .exit)) (now (third .exit))) × (r .bad ≡ false → Further (now (s .entry)) c rules r) × NoMore (now (s .entry)) r wishLetter ⌝ }
+pub fn wish_lines(s: &[u8], rules: Lines, c: Points, sheet: &mut Words) -> Lines
+    requires { ⌜ WishesTold (now s) c rules (now sheet) ⌝ }
+    ensures { λ r. ⌜ WishesRead (now (s .entry)) c r (now (sheet .exit)) × NoMore (now (s .entry)) r wishLetter ⌝ }
 {
     let mut l = rules;
     while goes_on(s, l, WISH) {
-        l = wish_line(s, l, c, first, second, third);
+        l = wish_line(s, l, c, sheet);
     }
     l
 }

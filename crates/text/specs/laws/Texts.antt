@@ -2,116 +2,145 @@
 use Prim.Native.Nat.{ℕ, _+_, _-_, _≤_, _<_}
 use native.Mathlib.Numerals.{add-one}
 use native.Mathlib.Omega.{arith}
+use mathlib.Core.Bool.{Bool, true, false}
 use mathlib.Core.List.{List, []}
-use mathlib.Core.Logic.{_≢_}
 use mathlib.Core.Path.{_≡_, refl, _∙_}
-use mathlib.Core.Bool.{false}
-use lib.ListN.{length, replicate, drop-of-length-le}
-use borrow.Author.Tests.{le-leb, lt-leb, ne-eqb}
-use Rattle.scope.specs.Sheet.{Sheet, Valid, mostGates, mostRules, mostWishes}
-use Rattle.scope.specs.Causes.{accepted, refused}
+use lib.Dec.{eqb, ltb}
+use lib.ListN.{length, drop-of-length-le}
+use borrow.Author.Tests.{le-leb, ltb-true, ltb-false, eqb-true, eqb-false, ne-eqb}
+use Rattle.scope.specs.Causes.{accepted, refused, started}
 use Rattle.scope.specs.Source.{Form}
 use Rattle.scope.specs.Claims.{text-read, form-source}
-use Rattle.scope.specs.Typed.{Typed, typed, Legal, mostText, allGates, allPoints, sheetOf}
-use Rattle.scope.specs.Texts.{atFault}
+use Rattle.scope.specs.Typed.{Typed, typed, mostText, allGates, allPoints, sheetOf}
+use Rattle.scope.specs.Texts.{TextRead, tooLong, atFault}
 use Rattle.scope.specs.Texts as texts
 use Rattle.scope.specs.Parsing.{ruleLine, wishLine, start, move, step, atEnd, walk, readText}
+use Rattle.scope.specs.Words.{wordsOf}
 use Rattle.scope.specs.laws.Completed.{walk-legal}
-use Rattle.scope.specs.laws.TypedSheets.{length-points}
-use Rattle.sheet.specs.Tables.{counts, refusedTables, outcome}
-use Rattle.sheet.specs.laws.Held.{tablesFrom, nothing-held, held-tables}
-use Rattle.text.specs.Look.{look}
-use Rattle.text.specs.Words.{Stuck}
-use Rattle.text.specs.Lines.{HeadTold, HeadLines, ruleLetter, wishLetter, NoMore, RulesTold, WishesTold, Further}
-use Rattle.text.specs.declared.formula.Points.{Points}
+use Rattle.scope.specs.laws.Tests.{clash}
+use Rattle.words.specs.Entries.{HeadPut}
+use Rattle.words.specs.Told.{Fills}
+use Rattle.words.specs.laws.Sheets.{valid-within}
+use Rattle.words.specs.laws.Told.{fills-accepted, fills-refused}
+use Rattle.formula.specs.Look.{look}
+use Rattle.formula.specs.Tokens.{Stuck}
+use Rattle.formula.specs.laws.Walks.{stuck-within, came-stuck, alike}
+use Rattle.formula.specs.declared.parsed.Points.{Points}
+use Rattle.text.specs.Lines.{HeadTold, HeadLines, stuckAt, ruleLetter, wishLetter, NoMore, LinesRead, RulesTold}
+use Rattle.text.specs.Wishes.{WishesTold, WishesRead}
+use Rattle.text.specs.Texts.{endedOf, TextTold, cause, causeOf}
 use Rattle.text.specs.declared.head.Head.{Head}
 use Rattle.text.specs.declared.lines.Lines.{Lines}
-use Rattle.text.specs.laws.Walks.{stuck-within, came-stuck, alike}
 
--- ---- too long, or not legal
+-- ---- before the first rule
 
-pub read-long : (s : List ℕ) → mostText < length s → refusedTables 12 0 0 ≡ outcome (readText s)
-unfolding readText
-read-long s h = rw (lt-leb (length s) mostText h)
+-- with no rule read the sheet is that of the head
+pub rules-begin : {s : List ℕ} {h : Head} {l : Lines} {u v : List ℕ} → length s ≤ mostText → HeadTold s h → HeadLines h l → u ≡ wordsOf (started 0 0) → HeadPut (h .switches) (h .faults) u v → RulesTold s record { switches = h .switches; faults = h .faults } l v
+unfolding allGates allPoints sheetOf
+rules-begin short t k e put = record {
+  rules = [];
+  told = record {
+    good = k .good;
+    short = short;
+    few = omega (arith, k .gates, k .rules, k .wishes);
+    switches = t .switches;
+    faults = t .faults;
+    came = rw (k .at) (t .came);
+    gates = k .gates;
+    rules = k .rules;
+    wishes = k .wishes;
+    kept = put (started 0 0) (λ w. e);
+    fault = k .fault;
+  };
+}
 
-pub read-stuck : (s : List ℕ) (at : ℕ) → length s ≤ mostText → Stuck s start 0 at → refusedTables 12 (at + 1) 0 ≡ outcome (readText s)
+-- ---- after the last rule
+
+-- where no rule comes, a wish may
+pub wishes-begin : {s : List ℕ} {c : Points} {l : Lines} {u : List ℕ} → RulesTold s c l u → NoMore s l ruleLetter → WishesTold s c l u
+unfolding step move atEnd
+wishes-begin {s} {c} {l} h no-rule =
+    let v : Typed = typed (c .switches) (c .faults) (h .rules) [] in
+    record {
+      rules = h .rules;
+      wishes = [];
+      told = record {
+        good = h .told .good;
+        short = h .told .short;
+        few = h .told .few;
+        switches = h .told .switches;
+        faults = h .told .faults;
+        came = record {
+          ahead = h .told .came .ahead;
+          within = h .told .came .within;
+          walk = h .told .came .walk ∙ alike s (ruleLine v) (wishLine v) (l .at) (rw (ne-eqb (look s (l .at)) ruleLetter (no-rule (h .told .good)))) refl;
+        };
+        gates = h .told .gates;
+        rules = h .told .rules;
+        wishes = h .told .wishes;
+        kept = h .told .kept;
+        fault = h .told .fault;
+      };
+    }
+
+-- ---- after the last wish
+
+-- no wish comes, so a text goes on here only by ending
+pub text-ends : {s : List ℕ} {c : Points} {l r : Lines} {u : List ℕ} → WishesRead s c l u → NoMore s l wishLetter → r ≡ endedOf s l → LinesRead (TextTold s r u) s r
+unfolding endedOf step move walk atEnd
+text-ends {s} {c} {l} {r} {u} h no-wish e = go (l .bad) refl
+  where
+    here : (b : l .bad ≡ false) → (t : Bool) → ltb (l .at) (length s) ≡ t → LinesRead (TextTold s r u) s r
+    here b true n =
+        let k : WishesTold s c l u = h .good b in
+        let v : Typed = typed (c .switches) (c .faults) (k .rules) (k .wishes) in
+        let z : r ≡ stuckAt (l .at) = e ∙ rw (b, n) refl in
+        rw z record {
+          good = λ t. clash refl t;
+          bad = λ t. came-stuck (k .told .came) (stuck-within s (wishLine v) (l .at) (ltb-true (l .at) (length s) n) (rw (ne-eqb (look s (l .at)) wishLetter (no-wish b))));
+        }
+    here b false n =
+        let k : WishesTold s c l u = h .good b in
+        let v : Typed = typed (c .switches) (c .faults) (k .rules) (k .wishes) in
+        let z : r ≡ l = e ∙ rw (b, n) refl in
+        rw z record {
+          good = λ t. record { value = v; legal = walk-legal s v (k .told .came .walk ∙ rw (drop-of-length-le s {i = l .at} (ltb-false (l .at) (length s) n))); kept = k .told .kept; fault = k .told .fault };
+          bad = λ t. clash t b;
+        }
+
+    go : (t : Bool) → l .bad ≡ t → LinesRead (TextTold s r u) s r
+    go true b =
+        let z : r ≡ l = e ∙ rw b refl in
+        rw z record { good = λ t. clash b t; bad = λ t. h .bad b }
+    go false b = here b (ltb (l .at) (length s)) refl
+
+-- ---- what is told
+
+pub too-long : {s u : List ℕ} → mostText < length s → Fills (TextRead s) (cause 12 0) u
+too-long {s} {u} h = fills-refused (TextRead s) 12 0 0 u (λ z. omega arith) (tooLong h)
+
+read-stuck : (s : List ℕ) (at : ℕ) → length s ≤ mostText → Stuck s start 0 at → readText s ≡ refused 12 (at + 1) 0
 unfolding readText
 read-stuck s at l h =
     let n : length s - (length s - at) ≡ at = omega (arith, h .within) in
     rw (le-leb (length s) mostText l, h .walk, n, add-one)
 
--- ---- before the first rule
+-- without a fault the text is accepted, so all counts are within the limits, and the words are those of the whole sheet
+pub text-fills : {s : List ℕ} {l : Lines} {u : List ℕ} → length s ≤ mostText → LinesRead (TextTold s l u) s l → Fills (TextRead s) (causeOf l) u
+unfolding causeOf
+text-fills {s} {l} {u} short h = go (l .bad) refl
+  where
+    told : (b : l .bad ≡ false) → (t : Bool) → eqb (l .fault .number) 0 ≡ t → Fills (TextRead s) (causeOf l) u
+    told b true e =
+        let k : TextTold s l u = h .good b in
+        let is : TextRead s (accepted (sheetOf (k .value))) = texts.accepted short (k .legal) (k .fault .met (eqb-true (l .fault .number) 0 e)) in
+        let valid = form-source (Form.text s) (accepted (sheetOf (k .value))) is .valid (sheetOf (k .value)) refl in
+        rw (b, e) (fills-accepted (TextRead s) (sheetOf (k .value)) u is valid (k .kept (valid-within (sheetOf (k .value)) valid)))
+    told b false e =
+        let k : TextTold s l u = h .good b in
+        let z = eqb-false (l .fault .number) 0 e in
+        rw (b, e) (fills-refused (TextRead s) (l .fault .number) (l .fault .line) 0 u z (atFault short (k .legal) (k .fault .first z)))
 
--- with no rule read the sheet is that of the head, and the arrays hold nothing
-pub rules-begin : (s : List ℕ) (h : Head) (l : Lines) (c : Points) → length s ≤ mostText → HeadTold s h → HeadLines h l → c ≡ record { switches = h .switches; faults = h .faults } → RulesTold s c l (replicate mostGates 0) (replicate mostGates 0) (replicate mostGates 0) (replicate mostRules 0)
-unfolding allGates allPoints
-rules-begin s h l c short t k e = rw e record {
-  begun = record {
-    good = k .good;
-    within = rw (k .at) (t .came .within);
-    short = short;
-    few = omega (arith, k .gates, k .rules, k .wishes);
-    switches = t .switches;
-    faults = t .faults;
-  };
-  rules = [];
-  came = rw (k .at) (t .came);
-  wishes = k .wishes;
-  gates = record { count = k .gates; arrays = λ n. nothing-held .gates };
-  points = record { count = k .rules; array = λ n. nothing-held .rules };
-  fault = k .fault;
-}
-
--- ---- after the last rule
-
-module _ (s : List ℕ) (c : Points) (rules : Lines) (kind left right rule : List ℕ) (h : RulesTold s c rules kind left right rule) (no-rule : NoMore s rules ruleLetter) where
-  -- where no rule comes, a wish may
-  pub wishes-begin : WishesTold s c (h .rules) rules (replicate mostWishes 0) (replicate mostWishes 0) (replicate mostWishes 0)
-  unfolding step move atEnd
-  wishes-begin =
-      let v : Typed = typed (c .switches) (c .faults) (h .rules) [] in
-      record {
-        wishes = [];
-        came = record {
-          ahead = h .came .ahead;
-          within = h .came .within;
-          walk = h .came .walk ∙ alike s (ruleLine v) (wishLine v) (rules .at) (rw (ne-eqb (look s (rules .at)) ruleLetter (no-rule (h .begun .good)))) refl;
-        };
-        count = h .points .count ∙ length-points (c .switches) (c .faults) 0 (h .rules);
-        arrays = record { count = h .wishes; arrays = λ n. nothing-held .wishes };
-        fault = h .fault;
-      }
-
-  module _ (l : Lines) (first second third : List ℕ) (b : l .bad ≡ false) (k : WishesTold s c (h .rules) l first second third) (no-wish : NoMore s l wishLetter) (f : Further s c rules l) where
-    v : Typed
-    v = typed (c .switches) (c .faults) (h .rules) (k .wishes)
-
-    -- bytes are left that begin no line
-    pub bytes-left : l .at < length s → refusedTables 12 (l .at + 1) 0 ≡ outcome (readText s)
-    unfolding step move v
-    bytes-left n = read-stuck s (l .at) (h .begun .short) (came-stuck s start (wishLine v) 0 (l .at) (l .at) (k .came) (stuck-within s (wishLine v) (l .at) n (rw (ne-eqb (look s (l .at)) wishLetter (no-wish b)))))
-
-    module _ (n : length s ≤ l .at) where
-      is-legal : Legal v s
-      unfolding walk atEnd v
-      is-legal = walk-legal s v (k .came .walk ∙ rw (drop-of-length-le s {i = l .at} n))
-
-      pub fault-told : l .fault .number ≢ 0 → refusedTables (l .fault .number) (l .fault .line) 0 ≡ outcome (readText s)
-      unfolding v
-      fault-told e = rw (text-read s (refused (l .fault .number) (l .fault .line) 0) .1 (atFault (h .begun .short) is-legal (k .fault .first e)))
-
-      -- without a fault the text is accepted, so all counts are within the limits, and the arrays hold the whole sheet
-      pub accepted-told : l .fault .number ≡ 0 → tablesFrom (counts (c .switches) (c .faults) (l .gates) (l .rules) (l .wishes)) kind left right rule first second third ≡ outcome (readText s)
-      unfolding v sheetOf
-      accepted-told e =
-          let t : Sheet = sheetOf v in
-          let r : readText s ≡ accepted t = text-read s (accepted t) .1 (texts.accepted (h .begun .short) is-legal (k .fault .met e)) in
-          let valid : Valid t = form-source (Form.text s) (readText s) (text-read s (readText s) .0 refl) .valid t r in
-          let gates : l .gates ≡ length (allGates (c .switches) (c .faults) 0 (h .rules)) = f .gates ∙ h .gates .count in
-          let points : l .rules ≡ length (allPoints (c .switches) (c .faults) 0 (h .rules)) = f .rules ∙ h .points .count in
-          rw r (held-tables t (counts (c .switches) (c .faults) (l .gates) (l .rules) (l .wishes)) kind left right rule first second third record {
-            counts = record { switches = refl; faults = refl; gates = gates; rules = points; wishes = k .arrays .count };
-            gates = h .gates .arrays (omega (arith, h .gates .count, valid .few-gates));
-            rules = h .points .array (omega (arith, h .points .count, valid .few-rules));
-            wishes = k .arrays .arrays (omega (arith, k .arrays .count, valid .few-wishes));
-          })
+    go : (t : Bool) → l .bad ≡ t → Fills (TextRead s) (causeOf l) u
+    go true b = rw b (fills-refused (TextRead s) 12 (l .at + 1) 0 u (λ z. omega arith) (text-read s (refused 12 (l .at + 1) 0) .0 (read-stuck s (l .at) short (h .bad b))))
+    go false b = told b (eqb (l .fault .number) 0) refl

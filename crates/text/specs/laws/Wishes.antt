@@ -8,7 +8,7 @@ use mathlib.Core.Bool.{Bool, true, false, cond, not, _&&_, and-assoc, and-true}
 use mathlib.Core.List.{List, [], _∷_, _++_, append-assoc}
 use mathlib.Core.Logic.{_≢_}
 use mathlib.Core.Option.{none}
-use mathlib.Core.Path.{_≡_, refl, sym, ap, subst, _∙_}
+use mathlib.Core.Path.{_≡_, refl, sym, ap, _∙_}
 use lib.Dec.{eqb, leb, ltb}
 use lib.ListN.{length, drop}
 use borrow.Author.Tests.{ltb-true, eqb-true, not-true, lt-ltb, le-ltb, ne-eqb}
@@ -16,23 +16,24 @@ use Rattle.scope.specs.Sheet.{Number, number, Clause, mostWishes, mostLiterals}
 use Rattle.scope.specs.Causes.{Test}
 use Rattle.scope.specs.Meaning.{all}
 use Rattle.scope.specs.Text.{bytes}
-use Rattle.scope.specs.Typed.{Formula, Typed, typed, mostText, wishTests, lineTests}
+use Rattle.scope.specs.Typed.{Formula, Typed, typed, mostText, wishTests, lineTests, sheetOf}
 use Rattle.scope.specs.Parsing.{word, literal, start, wishLine, wish, ended, addWish, numberDone, move, step, atEnd, walk}
+use Rattle.scope.specs.Words.{wishWords, literalCode}
 use Rattle.scope.specs.laws.Tests.{clash, both}
 use Rattle.scope.specs.laws.Lists.{length-snoc}
-use Rattle.sheet.specs.Steps as sheet
-use Rattle.sheet.specs.Steps.{WishArrays}
-use Rattle.scope.specs.Tables.{literalCode, literalAt}
-use Rattle.sheet.specs.laws.Tests.{test, none-left}
-use Rattle.text.specs.Look.{look, past}
-use Rattle.text.specs.Words.{Stuck, Came, WordRead, NamedRead}
-use Rattle.text.specs.Lines.{Faulted, stuckAt, wishLetter, goesOnWith, linesLeft, Begun, noWish, Literals, WithLiteral, oneLiteral, named, LiteralRead, moreLiterals, literalsLeft, LiteralsRead, WishesTold, wishFault, WithWish, Further, WishKept, WishLineRead, WishLinesRead}
-use Rattle.text.specs.declared.formula.Points.{Points}
+use Rattle.words.specs.Entries.{WishPut}
+use Rattle.words.specs.Tests as words
+use Rattle.formula.specs.Look.{look, past}
+use Rattle.formula.specs.Tokens.{Stuck, Came, WordRead, NamedRead}
+use Rattle.formula.specs.laws.Walks.{stands, past-moved, past-stayed, came, stops, came-came, came-stuck, alike, alike-within}
+use Rattle.formula.specs.declared.parsed.Points.{Points}
+use Rattle.formula.specs.declared.token.Token.{Token}
+use Rattle.text.specs.Lines.{stuckAt, wishLetter}
+use Rattle.text.specs.Wishes.{noLiterals, Codes, WithLiteral, oneLiteral, named, LiteralRead, moreLiterals, literalsLeft, LiteralsRead, WishesTold, WishesRead, wishFault, WithWish}
 use Rattle.text.specs.declared.lines.Lines.{Lines}
-use Rattle.text.specs.declared.wish.Wish.{Wish}
-use Rattle.text.specs.declared.words.Word.{Word}
-use Rattle.text.specs.laws.Walks.{stands, past-moved, past-stayed, came, stops, came-came, came-stuck, alike, alike-within}
-use Rattle.text.specs.laws.Lines.{line-count, goes-on-is, lines-less}
+use Rattle.text.specs.declared.wish.Literals.{Literals}
+use Rattle.words.specs.laws.Tests.{test, none-left}
+use Rattle.text.specs.laws.Lines.{line-count, line-stuck}
 
 -- a typed sheet, where any will do
 abbrev anyTyped : Typed
@@ -41,29 +42,29 @@ anyTyped = typed 0 0 [] []
 -- ---- one more literal
 
 -- the literals w with one more, which ends before n
-abbrev pub extended : Wish → (n : ℕ) → Bool → (first second third : ℕ) → Wish
+abbrev pub extended : Literals → (n : ℕ) → Bool → (first second third : ℕ) → Literals
 extended w n known x y z = record { bad = false; at = n; count = w .count + 1; first = x; second = y; third = z; known = known }
 
 all-more : (f : Number → Bool) (xs : Clause) (x : Number) → (all xs f && f x) ≡ all (xs ++ x ∷ []) f
 all-more f [] x = sym (and-true (f x))
 all-more f (y ∷ xs) x = and-assoc (f y) (all xs f) (f x) ∙ ap (λ b. f y && b) (all-more f xs x)
 
-module _ (w : Wish) (n letter : ℕ) (known now : Bool) (b : now ≡ (w .known && known)) where
-  still-known : (a : ℕ) (xs : Clause) (x : Number) → Literals a w xs → known ≡ leb (x .size) a → now ≡ all (xs ++ x ∷ []) (λ x. leb (x .size) a)
+module _ (w : Literals) (n letter : ℕ) (known now : Bool) (b : now ≡ (w .known && known)) where
+  still-known : (a : ℕ) (xs : Clause) (x : Number) → Codes a w xs → known ≡ leb (x .size) a → now ≡ all (xs ++ x ∷ []) (λ x. leb (x .size) a)
   still-known a xs x h k = b ∙ ap (λ t. t && known) (h .known) ∙ ap (λ t. all xs (λ x. leb (x .size) a) && t) k ∙ all-more (λ x. leb (x .size) a) xs x
 
   -- the count is the number of literals so far, so it says which place is the next: here and in the next two
   pub first-literal : w .count ≡ 0 → WithLiteral w n letter known (extended w n now letter (w .second) (w .third))
   first-literal e = record { good = refl; at = refl; count = refl; literals = λ a xs x h. go a xs x h (h .count) }
     where
-      go : (a : ℕ) (xs : Clause) (x : Number) → Literals a w xs → w .count ≡ length xs → letter ≡ literalCode x → known ≡ leb (x .size) a → Literals a (extended w n now letter (w .second) (w .third)) (xs ++ x ∷ [])
+      go : (a : ℕ) (xs : Clause) (x : Number) → Codes a w xs → w .count ≡ length xs → letter ≡ literalCode x → known ≡ leb (x .size) a → Codes a (extended w n now letter (w .second) (w .third)) (xs ++ x ∷ [])
       go a [] x h l c k = record { count = omega arith; first = c; second = h .second; third = h .third; known = still-known a [] x h k }
       go a (y ∷ xs) x h l c k = absurd (omega arith)
 
   pub second-literal : w .count ≡ 1 → WithLiteral w n letter known (extended w n now (w .first) letter (w .third))
   second-literal e = record { good = refl; at = refl; count = refl; literals = λ a xs x h. go a xs x h (h .count) }
     where
-      go : (a : ℕ) (xs : Clause) (x : Number) → Literals a w xs → w .count ≡ length xs → letter ≡ literalCode x → known ≡ leb (x .size) a → Literals a (extended w n now (w .first) letter (w .third)) (xs ++ x ∷ [])
+      go : (a : ℕ) (xs : Clause) (x : Number) → Codes a w xs → w .count ≡ length xs → letter ≡ literalCode x → known ≡ leb (x .size) a → Codes a (extended w n now (w .first) letter (w .third)) (xs ++ x ∷ [])
       go a [] x h l c k = absurd (omega arith)
       go a (y ∷ []) x h l c k = record { count = omega arith; first = h .first; second = c; third = h .third; known = still-known a (y ∷ []) x h k }
       go a (y ∷ z ∷ xs) x h l c k = absurd (omega arith)
@@ -71,15 +72,15 @@ module _ (w : Wish) (n letter : ℕ) (known now : Bool) (b : now ≡ (w .known &
   pub third-literal : w .count ≡ 2 → WithLiteral w n letter known (extended w n now (w .first) (w .second) letter)
   third-literal e = record { good = refl; at = refl; count = refl; literals = λ a xs x h. go a xs x h (h .count) }
     where
-      go : (a : ℕ) (xs : Clause) (x : Number) → Literals a w xs → w .count ≡ length xs → letter ≡ literalCode x → known ≡ leb (x .size) a → Literals a (extended w n now (w .first) (w .second) letter) (xs ++ x ∷ [])
+      go : (a : ℕ) (xs : Clause) (x : Number) → Codes a w xs → w .count ≡ length xs → letter ≡ literalCode x → known ≡ leb (x .size) a → Codes a (extended w n now (w .first) (w .second) letter) (xs ++ x ∷ [])
       go a [] x h l c k = absurd (omega arith)
       go a (y ∷ []) x h l c k = absurd (omega arith)
       go a (y ∷ z ∷ []) x h l c k = record { count = omega arith; first = h .first; second = h .second; third = c; known = still-known a (y ∷ z ∷ []) x h k }
       go a (y ∷ z ∷ u ∷ xs) x h l c k = absurd (omega arith)
 
 -- its name
-module _ (minus : Bool) (s : List ℕ) (a at : ℕ) (w r : Wish) (k : Word) (h : NamedRead s (bytes "s") false at k) where
-  pub no-literal : k .bad ≡ true → r ≡ noWish (k .at) → LiteralRead (named minus) s a at w r
+module _ (minus : Bool) (s : List ℕ) (a at : ℕ) (w r : Literals) (k : Token) (h : NamedRead s (bytes "s") false at k) where
+  pub no-literal : k .bad ≡ true → r ≡ noLiterals (k .at) → LiteralRead (named minus) s a at w r
   no-literal b e = rw e record { few = omega arith; good = λ t. clash refl t; bad = λ t v xs. h .bad b (literal v xs minus) refl }
 
   -- its number with its sign is the literal, and the walk comes past it
@@ -92,14 +93,14 @@ module _ (minus : Bool) (s : List ℕ) (a at : ℕ) (w r : Wish) (k : Word) (h :
   }
 
 -- with a `!` before its name, or without
-module _ (s : List ℕ) (a at : ℕ) (w r : Wish) where
+module _ (s : List ℕ) (a at : ℕ) (w r : Literals) where
   -- past the `!` the walk is at a name with a minus
   bang-literal : look s at ≡ code "!" → LiteralRead (named true) s a (at + 1) w r → LiteralRead oneLiteral s a at w r
   unfolding step move
   bang-literal e h = record {
     few = h .few;
-    good = λ t. let (x, l, c) = h .good t in (x, l, (λ v xs. came-came s (wish v xs) (named true v xs) (ended v (xs ++ x ∷ [])) at (at + 1) (r .at) (to v xs) (c v xs)));
-    bad = λ t v xs. came-stuck s (wish v xs) (named true v xs) at (at + 1) (r .at) (to v xs) (h .bad t v xs);
+    good = λ t. let (x, l, c) = h .good t in (x, l, (λ v xs. came-came (to v xs) (c v xs)));
+    bad = λ t v xs. came-stuck (to v xs) (h .bad t v xs);
   }
     where
       to : (v : Typed) (xs : Clause) → Came s (wish v xs) at (named true v xs) (at + 1)
@@ -151,7 +152,7 @@ module _ (s : List ℕ) (v : Typed) (xs : Clause) (n : ℕ) where
       go p false i j e = rw (j, ne-eqb (look s n) (code "\n") f)
 
 -- the three tests, one by one
-more-is : (s : List ℕ) (w : Wish) → moreLiterals s w ≡ true → (w .bad ≡ false) × (w .count < mostLiterals) × (look s (w .at) ≡ code " ")
+more-is : (s : List ℕ) (w : Literals) → moreLiterals s w ≡ true → (w .bad ≡ false) × (w .count < mostLiterals) × (look s (w .at) ≡ code " ")
 unfolding moreLiterals
 more-is s w e =
     let (g, h) = both (not (w .bad)) (ltb (w .count) mostLiterals && eqb (look s (w .at)) (code " ")) e in
@@ -159,11 +160,11 @@ more-is s w e =
     (not-true (w .bad) g, ltb-true (w .count) mostLiterals i, eqb-true (look s (w .at)) (code " ") j)
 
 -- what is asked of one more
-pub literal-asked : (s : List ℕ) (w : Wish) → moreLiterals s w ≡ true → (w .at + 1 ≤ length s) × (w .count < mostLiterals)
+pub literal-asked : (s : List ℕ) (w : Literals) → moreLiterals s w ≡ true → (w .at + 1 ≤ length s) × (w .count < mostLiterals)
 literal-asked s w e = let (g, l, b) = more-is s w e in (omega (arith, stands s (w .at) (omega arith)), l)
 
 -- and less is left after it
-pub less-literals : (s : List ℕ) (a : ℕ) (w r : Wish) → moreLiterals s w ≡ true → LiteralRead oneLiteral s a (w .at + 1) w r → literalsLeft s r < literalsLeft s w
+pub less-literals : (s : List ℕ) (a : ℕ) (w r : Literals) → moreLiterals s w ≡ true → LiteralRead oneLiteral s a (w .at + 1) w r → literalsLeft s r < literalsLeft s w
 unfolding literalsLeft
 less-literals s a w r e h = rw (more-is s w e .0) (go (r .bad) refl)
   where
@@ -175,7 +176,7 @@ less-literals s a w r e h = rw (more-is s w e .0) (go (r .bad) refl)
         omega (arith, d .ahead, d .within)
 
 module _ (s : List ℕ) (a at : ℕ) where
-  pub literals-first : (r : Wish) → LiteralRead oneLiteral s a at record { bad = false; at = at; count = 0; first = 0; second = 0; third = 0; known = true } r → LiteralsRead s a at r
+  pub literals-first : (r : Literals) → LiteralRead oneLiteral s a at record { bad = false; at = at; count = 0; first = 0; second = 0; third = 0; known = true } r → LiteralsRead s a at r
   literals-first r h = record {
     few = h .few;
     good = λ t. let (x, l, c) = h .good t in (x ∷ [], l [] record { count = refl; first = refl; second = refl; third = refl; known = refl }, (λ v. c v []));
@@ -183,33 +184,23 @@ module _ (s : List ℕ) (a at : ℕ) where
   }
 
   -- past the space the walk is at one more literal, which is put last
-  pub literals-more : (w r : Wish) → moreLiterals s w ≡ true → LiteralsRead s a at w → LiteralRead oneLiteral s a (w .at + 1) w r → LiteralsRead s a at r
+  pub literals-more : (w r : Literals) → moreLiterals s w ≡ true → LiteralsRead s a at w → LiteralRead oneLiteral s a (w .at + 1) w r → LiteralsRead s a at r
   literals-more w r e h q =
       let (g, n, b) = more-is s w e in
       let (xs, l, c) = h .good g in
-      let to : (v : Typed) → Came s (wish v []) at (wish v xs) (w .at + 1) = λ v. came-came s (wish v []) (ended v xs) (wish v xs) at (w .at) (w .at + 1) (c v) (ended-space s v xs (w .at) (omega (arith, l .count)) b) in
+      let to : (v : Typed) → Came s (wish v []) at (wish v xs) (w .at + 1) = λ v. came-came (c v) (ended-space s v xs (w .at) (omega (arith, l .count)) b) in
       record {
         few = q .few;
-        good = λ t. let (x, m, d) = q .good t in (xs ++ x ∷ [], m xs l, (λ v. came-came s (wish v []) (wish v xs) (ended v (xs ++ x ∷ [])) at (w .at + 1) (r .at) (to v) (d v xs)));
-        bad = λ t v. came-stuck s (wish v []) (wish v xs) at (w .at + 1) (r .at) (to v) (q .bad t v xs);
+        good = λ t. let (x, m, d) = q .good t in (xs ++ x ∷ [], m xs l, (λ v. came-came (to v) (d v xs)));
+        bad = λ t v. came-stuck (to v) (q .bad t v xs);
       }
-
--- ---- the arrays of the wishes
-
-module _ (n x y z : ℕ) (first second third : List ℕ) where
-  -- a wish for which there is no room is counted
-  pub wish-full : mostWishes ≤ n → WishKept n x y z first second third first second third
-  wish-full e ws w h i j k = record { count = omega (arith, h .count, length-snoc ws w); arrays = λ l. absurd (omega arith) }
-
-  pub wish-put : (firsts seconds thirds : List ℕ) → n < mostWishes → ((ws : List Clause) (w : Clause) → n ≡ length ws → WishArrays ws first second third → x ≡ literalAt 0 w → y ≡ literalAt 1 w → z ≡ literalAt 2 w → WishArrays (ws ++ w ∷ []) firsts seconds thirds) → WishKept n x y z first second third firsts seconds thirds
-  wish-put firsts seconds thirds e put ws w h i j k = record { count = omega (arith, h .count, length-snoc ws w); arrays = λ l. put ws w (h .count) (h .arrays (omega arith)) i j k }
 
 -- ---- the rows of a wish
 
 abbrev wishLineTests : (a j : ℕ) → Clause → List Test
 wishLineTests a j w = (5, ltb j mostWishes) ∷ (6, all w (λ x. leb (x .size) a)) ∷ []
 
-wish-fault : (a n j : ℕ) (known : Bool) (w : Clause) → n ≡ j → known ≡ all w (λ x. leb (x .size) a) → sheet.Fault (wishLineTests a j w) (wishFault n known)
+wish-fault : (a n j : ℕ) (known : Bool) (w : Clause) → n ≡ j → known ≡ all w (λ x. leb (x .size) a) → words.Fault (wishLineTests a j w) (wishFault n known)
 wish-fault a n j known w e f = test 5 refl (ap (λ k. ltb k mostWishes) e) (omega arith) (test 6 refl f (omega arith) none-left)
 
 module _ (a f : ℕ) where
@@ -229,103 +220,77 @@ module _ (a f : ℕ) where
 
 -- ---- one more line
 
--- its numbers stay small
-pub wish-asked : (s : List ℕ) (c : Points) (l : Lines) (a at : ℕ) (w : Wish) → Begun s c l → LiteralsRead s a at w → w .bad ≡ false → (l .rules + l .wishes ≤ mostText) × (w .at ≤ mostText)
-wish-asked s c l a at w h lits g = (omega (arith, h .few, h .within, h .short), omega (arith, lits .good g .2 anyTyped .within, h .short))
+module _ {s : List ℕ} {c : Points} {l : Lines} {u : List ℕ} (h : WishesTold s c l u) (letter : look s (l .at) ≡ wishLetter) {name : Token} (n : WordRead s (bytes "wish ") (l .at) name) where
+  abbrev told : Typed
+  told = typed (c .switches) (c .faults) (h .rules) (h .wishes)
 
-module _ (s : List ℕ) (c : Points) (l r : Lines) (begun : Begun s c l) (letter : look s (l .at) ≡ wishLetter) (first second third firsts seconds thirds : List ℕ) where
-  -- a line on which no legal text goes on at n
-  halts : (n : ℕ) → r ≡ stuckAt n → ((v : Typed) → Stuck s (wishLine v) (l .at) n) → WishLineRead s c l r first second third firsts seconds thirds
-  halts n e h = rw e ((λ xs told. let v : Typed = typed (c .switches) (c .faults) xs (told .wishes) in record { good = λ t. clash refl t; bad = λ t. came-stuck s start (wishLine v) 0 (l .at) n (told .came) (h v) }), (λ t. clash refl t))
+  -- where a wish's line begins, its word is looked for
+  to-name : Came s start 0 (word (bytes "wish ") (wish told [])) (l .at)
+  unfolding step move
+  to-name = record {
+    ahead = h .told .came .ahead;
+    within = h .told .came .within;
+    walk = h .told .came .walk ∙ alike-within s (wishLine told) (word (bytes "wish ") (wish told [])) (l .at) (stands s (l .at) (omega arith)) (rw letter);
+  }
 
-  -- it begins with its word
-  module _ (name : Word) (n : WordRead s (bytes "wish ") (l .at) name) where
-    same : (v : Typed) → walk (wishLine v) (drop (l .at) s) ≡ walk (word (bytes "wish ") (wish v [])) (drop (l .at) s)
-    unfolding step move
-    same v = alike-within s (wishLine v) (word (bytes "wish ") (wish v [])) (l .at) (stands s (l .at) (omega arith)) (rw letter)
+  pub no-name : {r : Lines} {v : List ℕ} → name .bad ≡ true → r ≡ stuckAt (name .at) → WishesRead s c r v × (r .bad ≡ false → l .at < r .at)
+  no-name b e = line-stuck e (came-stuck to-name (n .bad b (wish told [])))
 
-    pub no-name : name .bad ≡ true → r ≡ stuckAt (name .at) → WishLineRead s c l r first second third firsts seconds thirds
-    no-name b e = halts (name .at) e (λ v. let h : Stuck s (word (bytes "wish ") (wish v [])) (l .at) (name .at) = n .bad b (wish v []) in record { within = h .within; walk = same v ∙ h .walk })
+  -- and it goes on with its literals
+  module _ (b : name .bad ≡ false) {w : Literals} (lits : LiteralsRead s (c .switches) (name .at) w) where
+    to-wish : Came s start 0 (wish told []) (name .at)
+    to-wish = came-came to-name (n .good b (wish told []))
 
-    -- and goes on with its literals
-    module _ (b : name .bad ≡ false) (w : Wish) (lits : LiteralsRead s (c .switches) (name .at) w) where
-      to-wish : (v : Typed) → Came s (wishLine v) (l .at) (wish v []) (name .at)
-      to-wish v = let h : Came s (word (bytes "wish ") (wish v [])) (l .at) (wish v []) (name .at) = n .good b (wish v []) in record { ahead = h .ahead; within = h .within; walk = same v ∙ h .walk }
+    pub no-literals : {r : Lines} {v : List ℕ} → w .bad ≡ true → r ≡ stuckAt (w .at) → WishesRead s c r v × (r .bad ≡ false → l .at < r .at)
+    no-literals g e = line-stuck e (came-stuck to-wish (lits .bad g told))
 
-      pub no-literals : w .bad ≡ true → r ≡ stuckAt (w .at) → WishLineRead s c l r first second third firsts seconds thirds
-      no-literals g e = halts (w .at) e (λ v. came-stuck s (wishLine v) (wish v []) (l .at) (name .at) (w .at) (to-wish v) (lits .bad g v))
+    module _ (g : w .bad ≡ false) where
+      abbrev xs : Clause
+      xs = lits .good g .0
 
-      module _ (g : w .bad ≡ false) where
-        abbrev xs : Clause
-        xs = lits .good g .0
+      to-ended : Came s start 0 (ended told xs) (w .at)
+      to-ended = came-came to-wish (lits .good g .2 told)
 
-        to-ended : (v : Typed) → Came s (wishLine v) (l .at) (ended v xs) (w .at)
-        to-ended v = came-came s (wishLine v) (wish v []) (ended v xs) (l .at) (name .at) (w .at) (to-wish v) (lits .good g .2 v)
+      -- its numbers stay small
+      pub wish-asked : (l .rules + l .wishes ≤ mostText) × (w .at ≤ mostText)
+      wish-asked = (omega (arith, h .told .few, h .told .short, h .told .came .within), omega (arith, h .told .short, to-ended .within))
 
-        pub no-feed : moreLiterals s w ≡ false → look s (w .at) ≢ code "\n" → r ≡ stuckAt (w .at) → WishLineRead s c l r first second third firsts seconds thirds
-        unfolding moreLiterals
-        no-feed m f e =
-            let o : (ltb (length xs) mostLiterals && eqb (look s (w .at)) (code " ")) ≡ false = rw (g, lits .good g .1 .count) at m in
-            halts (w .at) e (λ v. came-stuck s (wishLine v) (ended v xs) (l .at) (w .at) (w .at) (to-ended v) (ended-stuck s v xs (w .at) (to-ended v .within) o f))
+      pub no-feed : {r : Lines} {v : List ℕ} → moreLiterals s w ≡ false → look s (w .at) ≢ code "\n" → r ≡ stuckAt (w .at) → WishesRead s c r v × (r .bad ≡ false → l .at < r .at)
+      unfolding moreLiterals
+      no-feed m f e =
+          let o : (ltb (length xs) mostLiterals && eqb (look s (w .at)) (code " ")) ≡ false = rw (g, lits .good g .1 .count) at m in
+          line-stuck e (came-stuck to-ended (ended-stuck s told xs (w .at) (to-ended .within) o f))
 
-        -- the literals are one more wish: its walk, its arrays and its fault come after those told so far
-        pub wish-read : look s (w .at) ≡ code "\n" → WishKept (l .wishes) (w .first) (w .second) (w .third) first second third firsts seconds thirds → WithWish l w r → WishLineRead s c l r first second third firsts seconds thirds
-        wish-read e keep q = ((λ rules told. record { good = λ t. told-more rules told; bad = λ t. clash t (q .good) }), (λ t. (further, omega (arith, q .at, to-ended anyTyped .ahead))))
-          where
-            line : (v : Typed) → Came s (wishLine v) (l .at) (wishLine (addWish v xs)) (w .at + 1)
-            line v = came-came s (wishLine v) (ended v xs) (wishLine (addWish v xs)) (l .at) (w .at) (w .at + 1) (to-ended v) (ended-feed s v xs (w .at) e)
-
-            further : Further s c l r
-            further =
-                let d : Came s (wishLine anyTyped) (l .at) (wishLine (addWish anyTyped xs)) (w .at + 1) = line anyTyped in
-                let m : l .at < w .at = to-ended anyTyped .ahead in
-                record {
-                  begun = record {
-                    good = q .good;
-                    within = rw (q .at) (d .within);
-                    short = begun .short;
-                    few = omega (arith, begun .few, q .at, q .gates, q .rules, q .wishes);
-                    switches = begun .switches;
-                    faults = begun .faults;
-                  };
-                  ahead = omega (arith, q .at);
-                  gates = q .gates;
-                  rules = q .rules;
-                }
-
-            told-more : (rules : List Formula) → WishesTold s c rules l first second third → WishesTold s c rules r firsts seconds thirds
-            told-more rules told =
-                let a : ℕ = c .switches in
-                let f : ℕ = c .faults in
-                let ws : List Clause = told .wishes in
-                let v : Typed = typed a f rules ws in
-                let h : Literals a w xs = lits .good g .1 in
-                record {
-                  wishes = ws ++ xs ∷ [];
-                  came = rw (q .at) (came-came s start (wishLine v) (wishLine (addWish v xs)) 0 (l .at) (w .at + 1) (told .came) (line v));
-                  count = q .rules ∙ told .count;
-                  arrays = rw (q .wishes) (keep ws xs (told .arrays) (h .first) (h .second) (h .third));
-                  fault = subst (λ rss. Faulted rss (r .fault)) (sym (line-rows a f rules ws xs)) (q .fault (lineTests v) (wishLineTests a (length ws) xs) (told .fault) (wish-fault a (l .wishes) (length ws) (w .known) xs (told .arrays .count) (h .known)) (omega (arith, line-count a f rules ws, told .count, told .arrays .count)));
-                }
-
--- ---- all lines
-
-pub lines-first : (s : List ℕ) (c : Points) (l : Lines) (first second third : List ℕ) → Begun s c l → WishLinesRead s c l l first second third first second third
-lines-first s c l first second third h = ((λ xs told. record { good = λ t. told; bad = λ t. clash t (h .good) }), (λ t. record { begun = h; ahead = omega arith; gates = refl; rules = refl }))
-
-module _ (s : List ℕ) (c : Points) (l₀ l : Lines) (first₀ second₀ third₀ first second third : List ℕ) (e : goesOnWith s l wishLetter ≡ true) (h : WishLinesRead s c l₀ l first₀ second₀ third₀ first second third) where
-  -- what is asked of one more
-  pub line-asked : Begun s c l × (look s (l .at) ≡ wishLetter)
-  line-asked = let (g, b) = goes-on-is s l wishLetter e in (h .1 g .begun, b)
-
-  module _ (r : Lines) (firsts seconds thirds : List ℕ) (q : WishLineRead s c l r first second third firsts seconds thirds) where
-    pub lines-more : WishLinesRead s c l₀ r first₀ second₀ third₀ firsts seconds thirds
-    lines-more =
-        let (g, b) = goes-on-is s l wishLetter e in
-        let i : Further s c l₀ l = h .1 g in
-        ((λ xs told. q .0 xs (h .0 xs told .good g)), (λ t. let j : Further s c l r = q .1 t .0 in record { begun = j .begun; ahead = omega (arith, i .ahead, j .ahead); gates = j .gates ∙ i .gates; rules = j .rules ∙ i .rules }))
-
-    pub less-lines : linesLeft s r < linesLeft s l
-    less-lines =
-        let (g, b) = goes-on-is s l wishLetter e in
-        lines-less s l r g (h .1 g .begun .within) (λ t. (q .1 t .1, q .1 t .0 .begun .within))
+      -- the literals are one more wish: its walk, its words and its fault come after those told so far
+      pub wish-read : {r : Lines} {v : List ℕ} → look s (w .at) ≡ code "\n" → WishPut record { first = w .first; second = w .second; third = w .third } u v → WithWish l w r → WishesRead s c r v × (r .bad ≡ false → l .at < r .at)
+      unfolding sheetOf
+      wish-read e put q =
+          let a : ℕ = c .switches in
+          let f : ℕ = c .faults in
+          let ws : List Clause = h .wishes in
+          let codes : Codes a w xs = lits .good g .1 in
+          let word-ahead : l .at < name .at = n .good b (wish told []) .ahead in
+          let ahead : name .at < w .at = lits .good g .2 told .ahead in
+          let words-are : w .first ∷ w .second ∷ w .third ∷ [] ≡ wishWords xs = cc in (
+            record {
+              good = λ t. record {
+                rules = h .rules;
+                wishes = ws ++ xs ∷ [];
+                told = record {
+                  good = q .good;
+                  short = h .told .short;
+                  few = omega (arith, h .told .few, q .at, q .gates, q .rules, q .wishes);
+                  switches = h .told .switches;
+                  faults = h .told .faults;
+                  came = rw (q .at) (came-came to-ended (ended-feed s told xs (w .at) e));
+                  gates = q .gates ∙ h .told .gates;
+                  rules = q .rules ∙ h .told .rules;
+                  wishes = omega (arith, q .wishes, h .told .wishes, length-snoc ws xs);
+                  kept = put (sheetOf told) xs words-are (h .told .kept);
+                  fault = rw (line-rows a f (h .rules) ws xs) (q .fault (lineTests told) (wishLineTests a (length ws) xs) (h .told .fault) (wish-fault a (l .wishes) (length ws) (w .known) xs (h .told .wishes) (codes .known)) (omega (arith, line-count a f (h .rules) ws, h .told .rules, h .told .wishes)));
+                };
+              };
+              bad = λ t. clash t (q .good);
+            },
+            λ t. omega (arith, q .at),
+          )

@@ -12,32 +12,32 @@ slice-aggregate-named-at c = search needs
 named-at-requires : tie.Need-named-at-requires
 named-at-requires c κs = search needs
 
-stuck-requires : tie.Need-stuck-requires
-stuck-requires c κs = search needs
+no-head-requires : tie.Need-no-head-requires
+no-head-requires c κs = search needs
 
 returns : tie.Need-returns
-returns c = switches-bad _ _ (c .before .before .named-at .ensures) _ (c .before .if1 .taken) (c .stuck .ensures)
+returns c = switches-bad (c .before .before .named-at .ensures) (c .before .if1 .taken) (c .no-head .ensures)
 
 slice-aggregate-named-at-2 : tie.Need-slice-aggregate-named-at-2
 slice-aggregate-named-at-2 c = search needs
 
 named-at-requires-2 : tie.Need-named-at-requires-2
-named-at-requires-2 c κs = (faults-within _ _ (c .before .before .named-at .ensures) (c .before .if1 .left), omega arith)
+named-at-requires-2 c κs = (faults-within (c .before .before .named-at .ensures) (c .before .if1 .left), omega arith)
 
-stuck-requires-2 : tie.Need-stuck-requires-2
-stuck-requires-2 c κs = search needs
+no-head-requires-2 : tie.Need-no-head-requires-2
+no-head-requires-2 c κs = search needs
 
 returns-2 : tie.Need-returns-2
-returns-2 c = faults-bad _ _ (c .before .before .before .before .before .named-at .ensures) (c .before .before .before .before .if1 .left) _ (c .before .before .named-at2 .ensures) _ (c .before .if2 .taken) (c .stuck2 .ensures)
+returns-2 c = faults-bad (c .before .before .before .before .before .named-at .ensures) (c .before .before .before .before .if1 .left) (c .before .before .named-at2 .ensures) (c .before .if2 .taken) (c .no-head2 .ensures)
 
 slice-aggregate-word-at : tie.Need-slice-aggregate-word-at
 slice-aggregate-word-at c = search needs
 
 word-at-requires : tie.Need-word-at-requires
-word-at-requires c κs = (feed-within _ _ (c .before .before .before .before .before .named-at .ensures) (c .before .before .before .before .if1 .left) _ (c .before .before .named-at2 .ensures) (c .before .if2 .left), omega arith)
+word-at-requires c κs = (feed-within (c .before .before .before .before .before .named-at .ensures) (c .before .before .before .before .if1 .left) (c .before .before .named-at2 .ensures) (c .before .if2 .left), omega arith)
 
 returns-3 : tie.Need-returns-3
-returns-3 c = head-read _ _ (c .before .before .before .before .before .before .named-at .ensures) (c .before .before .before .before .before .if1 .left) _ (c .before .before .before .named-at2 .ensures) _ _ (c .before .before .if2 .left) (c .word-at .ensures) refl
+returns-3 c = head-read (c .before .before .before .before .before .before .named-at .ensures) (c .before .before .before .before .before .if1 .left) (c .before .before .before .named-at2 .ensures) (c .before .before .if2 .left) (c .word-at .ensures) refl
 
 pub head-at-spec : {M : Type 1} → statement M
 head-at-spec =
@@ -45,11 +45,11 @@ head-at-spec =
     (tie.spec
     slice-aggregate-named-at
     named-at-requires
-    stuck-requires
+    no-head-requires
     returns
     slice-aggregate-named-at-2
     named-at-requires-2
-    stuck-requires-2
+    no-head-requires-2
     returns-2
     slice-aggregate-word-at
     word-at-requires

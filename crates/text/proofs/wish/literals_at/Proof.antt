@@ -1,7 +1,7 @@
 -- `wish::literals_at` meets its contract: the loop's invariant is that the literals so far are read; a further one comes after a space, where there are fewer than three, and ends at a later place.
 use mathlib.Core.Path.{sym, _∙_}
 use native.Mathlib.Omega.{arith}
-use Rattle.text.specs.Lines.{LiteralsRead, literalsLeft}
+use Rattle.text.specs.Wishes.{LiteralsRead, literalsLeft}
 use Rattle.text.specs.laws.Wishes.{literal-asked, less-literals, literals-first, literals-more}
 use borrow.Author.Needs.{needs}
 use Rattle.text.proofs.wish.literals_at.Statement.{statement}

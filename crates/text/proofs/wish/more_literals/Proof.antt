@@ -1,7 +1,7 @@
 -- `wish::more_literals` meets its contract: the three tests are those of the definition, in its order.
 use borrow.Author.Tests.{lt-ltb, le-ltb}
 use Rattle.scope.specs.Sheet.{mostLiterals}
-use Rattle.text.specs.Lines.{moreLiterals}
+use Rattle.text.specs.Wishes.{moreLiterals}
 use borrow.Author.Needs.{needs}
 use Rattle.text.proofs.wish.more_literals.Statement.{statement}
 use Rattle.text.proofs.wish.more_literals.Tie as tie

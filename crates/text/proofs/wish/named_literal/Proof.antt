@@ -1,5 +1,4 @@
 -- `wish::named_literal` meets its contract: a bad name is no literal, and the number of a good one, with the sign, is the literal that is added.
-use denote.Ref.{now}
 use Rattle.text.specs.laws.Wishes.{no-literal, named-literal}
 use borrow.Author.Needs.{needs}
 use Rattle.text.proofs.wish.named_literal.Statement.{statement}
@@ -11,14 +10,11 @@ slice-aggregate-named-at c = search needs
 named-at-requires : tie.Need-named-at-requires
 named-at-requires c κs = search needs
 
-no-wish-requires : tie.Need-no-wish-requires
-no-wish-requires c κs = search needs
+no-literals-requires : tie.Need-no-literals-requires
+no-literals-requires c κs = search needs
 
 returns : tie.Need-returns
-returns c =
-    let a = c .before .before .before .before .before .args in
-    let k = c .before .before .named-at in
-    no-literal (a .minus) (now (a .s)) (a .switches) (a .at) (a .w) _ (k .result) (k .ensures) (c .before .if1 .taken) (c .no-wish .ensures)
+returns c = no-literal _ _ _ _ _ _ _ (c .before .before .named-at .ensures) (c .before .if1 .taken) (c .no-literals .ensures)
 
 literal-code-requires : tie.Need-literal-code-requires
 literal-code-requires c κs = search needs
@@ -27,11 +23,7 @@ with-literal-requires : tie.Need-with-literal-requires
 with-literal-requires c κs = search needs
 
 returns-2 : tie.Need-returns-2
-returns-2 c =
-    let a = c .before .before .before .before .before .before .before .args in
-    let k = c .before .before .before .before .named-at in
-    let n = c .before .before .literal-code in
-    named-literal (a .minus) (now (a .s)) (a .switches) (a .at) (a .w) _ (k .result) (k .ensures) (n .result) (c .before .before .before .if1 .left) (c .before .before .before .before .before .before .before .pre .1) (n .ensures) (c .with-literal .ensures)
+returns-2 c = named-literal _ _ _ _ _ _ _ (c .before .before .before .before .named-at .ensures) _ (c .before .before .before .if1 .left) (c .before .before .before .before .before .before .before .pre .1) (c .before .before .literal-code .ensures) (c .with-literal .ensures)
 
 pub named-literal-spec : {M : Type 1} → statement M
 named-literal-spec =
@@ -39,7 +31,7 @@ named-literal-spec =
     (tie.spec
     slice-aggregate-named-at
     named-at-requires
-    no-wish-requires
+    no-literals-requires
     returns
     literal-code-requires
     with-literal-requires

@@ -1,6 +1,6 @@
 -- `wish::wish_line` meets its contract: the word, the literals and the line feed are read in turn: where one is bad no legal text goes on, and after the last one more wish is told.
 use mathlib.Core.Path.{sym, _∙_}
-use denote.Ref.{now}
+use native.Mathlib.Omega.{arith}
 use Rattle.scope.specs.Parsing.{start}
 use Rattle.text.specs.laws.Wishes.{no-name, no-literals, wish-asked, no-feed, wish-read}
 use borrow.Author.Needs.{needs}
@@ -11,17 +11,13 @@ slice-aggregate-word-at : tie.Need-slice-aggregate-word-at
 slice-aggregate-word-at c = search needs
 
 word-at-requires : tie.Need-word-at-requires
-word-at-requires c κs = search needs
+word-at-requires c κs = (c .before .before .pre .0 .told .came .within, omega arith)
 
 stuck-requires : tie.Need-stuck-requires
 stuck-requires c κs = search needs
 
 returns : tie.Need-returns
-returns c =
-    let a = c .before .before .before .before .before .args in
-    let p = c .before .before .before .before .before .pre in
-    let n = c .before .before .word-at in
-    no-name (now (a .s)) (a .c) (a .l) _ (p .0) (p .1) _ _ _ _ _ _ (n .result) (n .ensures) (c .before .if1 .taken) (c .stuck .ensures)
+returns c = no-name (c .before .before .before .before .before .pre .0) (c .before .before .before .before .before .pre .1) (c .before .before .word-at .ensures) (c .before .if1 .taken) (c .stuck .ensures)
 
 literals-at-requires : tie.Need-literals-at-requires
 literals-at-requires c κs = c .before .word-at .ensures .good (c .if1 .left) start .within
@@ -30,12 +26,7 @@ stuck-requires-2 : tie.Need-stuck-requires-2
 stuck-requires-2 c κs = search needs
 
 returns-2 : tie.Need-returns-2
-returns-2 c =
-    let a = c .before .before .before .before .before .before .before .args in
-    let p = c .before .before .before .before .before .before .before .pre in
-    let n = c .before .before .before .before .word-at in
-    let w = c .before .before .literals-at in
-    no-literals (now (a .s)) (a .c) (a .l) _ (p .0) (p .1) _ _ _ _ _ _ (n .result) (n .ensures) (c .before .before .before .if1 .left) (w .result) (w .ensures .0) (c .before .if2 .taken) (c .stuck2 .ensures)
+returns-2 c = no-literals (c .before .before .before .before .before .before .before .pre .0) (c .before .before .before .before .before .before .before .pre .1) (c .before .before .before .before .word-at .ensures) (c .before .before .before .if1 .left) (c .before .before .literals-at .ensures .0) (c .before .if2 .taken) (c .stuck2 .ensures)
 
 look-requires : tie.Need-look-requires
 look-requires c κs = search needs
@@ -45,28 +36,17 @@ stuck-requires-3 c κs = search needs
 
 returns-3 : tie.Need-returns-3
 returns-3 c =
-    let a = c .before .before .before .before .before .before .before .before .before .args in
-    let p = c .before .before .before .before .before .before .before .before .before .pre in
-    let n = c .before .before .before .before .before .before .word-at in
-    let w = c .before .before .before .before .literals-at in
-    no-feed (now (a .s)) (a .c) (a .l) _ (p .0) (p .1) _ _ _ _ _ _ (n .result) (n .ensures) (c .before .before .before .before .before .if1 .left) (w .result) (w .ensures .0) (c .before .before .before .if2 .left) (w .ensures .1) (λ z. c .before .if3 .taken (c .before .before .look .ensures ∙ z)) (c .stuck3 .ensures)
+    let w = c .before .before .before .before .literals-at .ensures in
+    no-feed (c .before .before .before .before .before .before .before .before .before .pre .0) (c .before .before .before .before .before .before .before .before .before .pre .1) (c .before .before .before .before .before .before .word-at .ensures) (c .before .before .before .before .before .if1 .left) (w .0) (c .before .before .before .if2 .left) (w .1) (λ z. c .before .if3 .taken (c .before .before .look .ensures ∙ z)) (c .stuck3 .ensures)
 
-keep-wish-requires : tie.Need-keep-wish-requires
-keep-wish-requires c κs = search needs
+put-wish-requires : tie.Need-put-wish-requires
+put-wish-requires c κs = search needs
 
 with-wish-requires : tie.Need-with-wish-requires
-with-wish-requires c κs =
-    let a = c .before .before .before .before .before .before .before .before .before .before .before .before .args in
-    let w = c .before .before .before .before .before .before .before .literals-at in
-    wish-asked (now (a .s)) (a .c) (a .l) (a .c .switches) (c .before .before .before .before .before .before .before .before .before .word-at .result .at) (w .result) (c .before .before .before .before .before .before .before .before .before .before .before .before .pre .0) (w .ensures .0) (c .before .before .before .before .before .before .if2 .left)
+with-wish-requires c κs = wish-asked (c .before .before .before .before .before .before .before .before .before .before .pre .0) (c .before .before .before .before .before .before .before .before .before .before .pre .1) (c .before .before .before .before .before .before .before .word-at .ensures) (c .before .before .before .before .before .before .if1 .left) (c .before .before .before .before .before .literals-at .ensures .0) (c .before .before .before .before .if2 .left)
 
 returns-4 : tie.Need-returns-4
-returns-4 c =
-    let a = c .before .before .before .before .before .before .before .before .before .before .before .before .before .args in
-    let p = c .before .before .before .before .before .before .before .before .before .before .before .before .before .pre in
-    let n = c .before .before .before .before .before .before .before .before .before .before .word-at in
-    let w = c .before .before .before .before .before .before .before .before .literals-at in
-    wish-read (now (a .s)) (a .c) (a .l) _ (p .0) (p .1) _ _ _ _ _ _ (n .result) (n .ensures) (c .before .before .before .before .before .before .before .before .before .if1 .left) (w .result) (w .ensures .0) (c .before .before .before .before .before .before .before .if2 .left) (sym (c .before .before .before .before .before .before .look .ensures) ∙ c .before .before .before .before .before .if3 .left) (c .before .keep-wish .ensures) (c .with-wish .ensures)
+returns-4 c = wish-read (c .before .before .before .before .before .before .before .before .before .before .before .pre .0) (c .before .before .before .before .before .before .before .before .before .before .before .pre .1) (c .before .before .before .before .before .before .before .before .word-at .ensures) (c .before .before .before .before .before .before .before .if1 .left) (c .before .before .before .before .before .before .literals-at .ensures .0) (c .before .before .before .before .before .if2 .left) (sym (c .before .before .before .before .look .ensures) ∙ c .before .before .before .if3 .left) (c .before .put-wish .ensures) (c .with-wish .ensures)
 
 pub wish-line-spec : {M : Type 1} → statement M
 wish-line-spec =
@@ -82,6 +62,6 @@ wish-line-spec =
     look-requires
     stuck-requires-3
     returns-3
-    keep-wish-requires
+    put-wish-requires
     with-wish-requires
     returns-4)

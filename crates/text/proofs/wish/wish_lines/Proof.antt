@@ -1,50 +1,40 @@
--- `wish::wish_lines` meets its contract: the loop's invariant is that the lines so far are read, whatever rules stand before them; a further line begins with the letter of a wish and ends at a later place, so less of the text is left.
+-- `wish::wish_lines` meets its contract: the loop's invariant is that the lines so far are read; a further line begins with the letter of a wish and ends at a later place, so less of the text is left.
 use mathlib.Core.Path.{sym, _∙_}
-use denote.Ref.{now}
-use Rattle.text.specs.Lines.{linesLeft, wishLetter, WishLinesRead}
-use Rattle.text.specs.laws.Lines.{no-more}
-use Rattle.text.specs.laws.Wishes.{lines-first, line-asked, lines-more, less-lines}
+use Rattle.scope.specs.laws.Tests.{clash}
+use Rattle.text.specs.Lines.{linesLeft}
+use Rattle.text.specs.Wishes.{WishesRead}
+use Rattle.text.specs.laws.Lines.{goes-on-is, no-more, lines-less}
 use borrow.Author.Needs.{needs}
 use Rattle.text.proofs.wish.wish_lines.Statement.{statement}
 use Rattle.text.proofs.wish.wish_lines.Tie as tie
 
 abbrev Inv-loop : tie.InvT-loop
-Inv-loop s c first₀ second₀ third₀ l₀ first second third l = WishLinesRead s c l₀ l first₀ second₀ third₀ first second third
+Inv-loop s c sheet₀ l₀ sheet l = WishesRead s c l sheet
 
 abbrev μ-loop : tie.MeasureT-loop
-μ-loop s c first₀ second₀ third₀ l₀ first second third l = linesLeft s l
+μ-loop s c sheet₀ l₀ sheet l = linesLeft s l
 
 loop-holds : tie.Need-loop-holds Inv-loop μ-loop
-loop-holds c =
-    let a = c .before .args in
-    lines-first (now (a .s)) (a .c) (a .rules) (now (a .first)) (now (a .second)) (now (a .third)) (c .before .pre)
+loop-holds c = record { good = λ t. c .before .pre; bad = λ t. clash t (c .before .pre .told .good) }
 
 goes-on-requires : tie.Need-goes-on-requires Inv-loop μ-loop
 goes-on-requires c κs = search needs
 
 wish-line-requires : tie.Need-wish-line-requires Inv-loop μ-loop
 wish-line-requires c κs =
-    let a = c .before .before .before .before .before .before .before .args in
-    let l = c .before .before .before .before .before .loop in
-    line-asked (now (a .s)) (a .c) (a .rules) (l .l) (now (a .first)) (now (a .second)) (now (a .third)) (l .first) (l .second) (l .third) (sym (c .before .before .before .before .goes-on .ensures) ∙ c .before .before .before .if1 .taken) (l .inv)
+    let (g, e) = goes-on-is _ _ _ (sym (c .before .before .goes-on .ensures) ∙ c .before .if1 .taken) in
+    (c .before .before .before .loop .inv .good g, e)
 
 loop-less : tie.Need-loop-less Inv-loop μ-loop
 loop-less c =
-    let a = c .before .before .before .before .before .before .before .before .args in
-    let l = c .before .before .before .before .before .before .loop in
-    less-lines (now (a .s)) (a .c) (a .rules) (l .l) (now (a .first)) (now (a .second)) (now (a .third)) (l .first) (l .second) (l .third) (sym (c .before .before .before .before .before .goes-on .ensures) ∙ c .before .before .before .before .if1 .taken) (l .inv) _ _ _ _ (c .wish-line .ensures)
+    let (g, e) = goes-on-is _ _ _ (sym (c .before .before .before .goes-on .ensures) ∙ c .before .before .if1 .taken) in
+    lines-less _ _ _ g (c .before .before .before .before .loop .inv .good g .told .came .within) (λ t. (c .wish-line .ensures .1 t, c .wish-line .ensures .0 .good t .told .came .within))
 
 loop-again : tie.Need-loop-again Inv-loop μ-loop
-loop-again c =
-    let a = c .before .before .before .before .before .before .before .before .args in
-    let l = c .before .before .before .before .before .before .loop in
-    lines-more (now (a .s)) (a .c) (a .rules) (l .l) (now (a .first)) (now (a .second)) (now (a .third)) (l .first) (l .second) (l .third) (sym (c .before .before .before .before .before .goes-on .ensures) ∙ c .before .before .before .before .if1 .taken) (l .inv) _ _ _ _ (c .wish-line .ensures)
+loop-again c = c .wish-line .ensures .0
 
 returns : tie.Need-returns Inv-loop μ-loop
-returns c =
-    let a = c .before .before .before .before .args in
-    let l = c .before .before .loop in
-    (l .inv .0, l .inv .1, no-more (now (a .s)) (l .l) wishLetter (sym (c .before .goes-on .ensures) ∙ c .if1 .left))
+returns c = (c .before .before .loop .inv, no-more _ _ _ (sym (c .before .goes-on .ensures) ∙ c .if1 .left))
 
 pub wish-lines-spec : {M : Type 1} → statement M
 wish-lines-spec =

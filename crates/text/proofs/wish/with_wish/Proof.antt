@@ -1,4 +1,4 @@
--- `wish::with_wish` meets its contract: the number that the two rows give is the line's own fault, which `first_of` takes if no earlier line has one.
+-- `wish::with_wish` meets its contract: the number that the two tests give is the line's own fault, which `first_of` takes if no earlier line has one.
 use mathlib.Core.Path.{refl}
 use native.Mathlib.Omega.{arith}
 use borrow.Author.Needs.{needs}
@@ -11,11 +11,11 @@ test-requires c κs = search needs
 test-requires-2 : tie.Need-test-requires-2
 test-requires-2 c κs = search needs
 
-cast-line : tie.Need-cast-line
-cast-line c = search needs
+wide-requires : tie.Need-wide-requires
+wide-requires c κs = search needs
 
-cast-line-2 : tie.Need-cast-line-2
-cast-line-2 c = search needs
+wide-requires-2 : tie.Need-wide-requires-2
+wide-requires-2 c κs = search needs
 
 add-line : tie.Need-add-line
 add-line c = search needs
@@ -36,7 +36,15 @@ first-of-requires : tie.Need-first-of-requires
 first-of-requires c κs = search needs
 
 returns : tie.Need-returns
-returns c = record { good = refl; at = refl; gates = refl; rules = refl; wishes = refl; fault = λ rss rs h f e. c .first-of .ensures rss rs h (rw (c .before .before .before .before .test2 .ensures, c .before .before .before .before .before .test .ensures) f) (omega (arith, e)) }
+returns c =
+    record {
+      good = refl;
+      at = refl;
+      gates = refl;
+      rules = refl;
+      wishes = refl;
+      fault = λ rss rs h f e. c .first-of .ensures rss rs h (rw (c .before .before .before .before .before .test2 .ensures, c .before .before .before .before .before .before .test .ensures) f) (omega (arith, e, c .before .before .wide2 .ensures, c .before .before .before .wide .ensures));
+    }
 
 pub with-wish-spec : {M : Type 1} → statement M
 with-wish-spec =
@@ -44,8 +52,8 @@ with-wish-spec =
     (tie.spec
     test-requires
     test-requires-2
-    cast-line
-    cast-line-2
+    wide-requires
+    wide-requires-2
     add-line
     add-line-2
     add-line-3

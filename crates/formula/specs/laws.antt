@@ -1,0 +1,6 @@
+pub mod Walks
+pub mod Tokens
+pub mod Signs
+pub mod Gates
+pub mod Levels
+pub mod Factors
