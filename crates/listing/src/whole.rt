@@ -4,64 +4,67 @@ use crate::row::put_row;
 use crate::rows::put_patterns;
 use crate::rows::put_switches;
 use crate::rows::put_wishes;
-use crate::rows::wide;
-use circuit::Plan;
-use writer::line::narrow;
-ghost use Prim.Native.Nat.{_+_, _*_, _≤_, _<_};
+use words::Plan;
+use words::Words;
+use words::convert::narrow;
+use words::convert::wide;
+use words::counts::counts_of;
+use words::letter::END;
+use words::limit::MOST_SWITCHES;
+use words::limit::MOST_WISHES;
+ghost use mathlib.Core.Bool.{true};
+ghost use mathlib.Core.Path.{_≡_};
+ghost use Prim.Native.Nat.{_+_, _*_, _≤_};
 ghost use lib.ListN.{length};
-ghost use Rattle.circuit.specs.Lent.{Clauses, wishesOf};
-ghost use Rattle.listing.specs.Rows.{Wrote, Small};
-ghost use Rattle.listing.specs.Listing.{planRowsOf, listingRows};
+ghost use Rattle.scope.specs.Sheet.{Sheet, Valid};
+ghost use Rattle.scope.specs.Words.{held};
+ghost use Rattle.scope.specs.Program.{room};
+ghost use Rattle.listing.specs.Rows.{rowSize, Wrote, Small};
+ghost use Rattle.listing.specs.Listing.{planRowsOf, planCount, listingRows, rowCount, Fitting};
 
 const ANSWER: u8 = b'A';
 
-const END: u8 = b'Z';
+// The longest list that is printed.
+pub const ROOM: usize = 4096;
 
-// The bytes of the longest listing: a row each for A, 20 switches, 64 wishes, 4,096 patterns and Z.
-pub const MOST_BYTES: usize = 71_094;
+// The bytes of the longest listing: a row each for A, the switches, the wishes, the patterns and Z.
+pub const MOST_BYTES: usize = (MOST_SWITCHES as usize + MOST_WISHES as usize + ROOM + 2) * ROW_SIZE;
 
-// A row for each switch and each wish, if a plan was found, from `at` on. Returns where they end.
-fn put_plan(
-    out: &mut [u8],
-    at: usize,
-    found: bool,
-    a: u32,
-    plan: Plan,
-    first: &[u32],
-    second: &[u32],
-    third: &[u32],
-) -> usize
-    requires { ⌜ Clauses a (now first) (now second) (now third) × (at ≤ 17) × (at + 17 * 84 ≤ length (now out)) ⌝ }
-    ensures { λ r. ⌜ Wrote (now (out .entry)) at (planRowsOf found a (plan .0) (wishesOf (now (first .entry)) (now (second .entry)) (now (third .entry)))) (now (out .exit)) r × (r ≤ at + 17 * 84) ⌝ }
-{
-    if found {
-        put_switches(out, at, a, plan);
-        let next = at + ROW_SIZE * wide(a);
-        put_wishes(out, next, first, second, third, a, plan);
-        return next + ROW_SIZE * first.len();
-    }
-    at
+// What a listing shows beside the list: the numbers of its A line, and a plan, if one was found.
+pub struct Shown {
+    pub number: u32,
+    pub place: u32,
+    pub figure: u32,
+    pub found: bool,
+    pub plan: Plan,
 }
 
-// The listing, at the beginning of `out`; number, place and figure stand on its A line. Returns its length.
-pub fn put_listing(
-    out: &mut [u8],
-    number: u32,
-    place: u32,
-    figure: u32,
-    found: bool,
-    a: u32,
-    plan: Plan,
-    first: &[u32],
-    second: &[u32],
-    third: &[u32],
-    list: &[u32],
-) -> usize
-    requires { ⌜ Clauses a (now first) (now second) (now third) × (71094 ≤ length (now out)) × (number < 100000) × (place < 100000) × (figure < 100000) × (length (now list) ≤ 4096) × Small (now list) ⌝ }
-    ensures { λ r. ⌜ Wrote (now (out .entry)) 0 (listingRows number place figure (planRowsOf found a (plan .0) (wishesOf (now (first .entry)) (now (second .entry)) (now (third .entry)))) (now (list .entry))) (now (out .exit)) r ⌝ }
+// A row for each switch and each wish, if a plan was found, from `at` on. Returns where they end.
+fn put_plan(out: &mut [u8], at: usize, shown: Shown, sheet: &Words) -> usize
+    ghost { Sheet }
+    requires { λ t. ⌜ held (now sheet) ≡ t ⌝ }
+    requires { λ t. ⌜ (shown .found ≡ true → Valid t) × (at + rowSize * planCount (shown .found) t ≤ length (now out)) ⌝ }
+    ensures { λ t r. ⌜ Wrote (now (out .entry)) at (planRowsOf (shown .found) t (shown .plan .0)) (now (out .exit)) r × (r ≡ at + rowSize * planCount (shown .found) t) ⌝ }
 {
-    put_row(out, 0, ANSWER, number, place, figure);
-    let middle = put_plan(out, ROW_SIZE, found, a, plan, first, second, third);
+    if !shown.found {
+        return at;
+    }
+    let counts = counts_of(sheet);
+    put_switches(out, at, counts.switches, shown.plan);
+    let next = at + ROW_SIZE * wide(counts.switches);
+    put_wishes(out, next, sheet, shown.plan);
+    next + ROW_SIZE * wide(counts.wishes)
+}
+
+// The listing, at the beginning of `out`. Returns its length. After a refusal the words need hold no valid sheet.
+pub fn put_listing(out: &mut [u8], shown: Shown, sheet: &Words, list: &[u32]) -> usize
+    ghost { Sheet }
+    requires { λ t. ⌜ held (now sheet) ≡ t ⌝ }
+    requires { λ t. ⌜ (shown .found ≡ true → Valid t) × Fitting shown × Small (now list) × (length (now list) ≤ room) × (rowSize * rowCount (shown .found) t (now list) ≤ length (now out)) ⌝ }
+    ensures { λ t r. ⌜ Wrote (now (out .entry)) 0 (listingRows shown t (now (list .entry))) (now (out .exit)) r ⌝ }
+{
+    put_row(out, 0, ANSWER, shown.number, shown.place, shown.figure);
+    let middle = put_plan(out, ROW_SIZE, shown, sheet);
     put_patterns(out, middle, list);
     let end = middle + ROW_SIZE * list.len();
     let lines = narrow(end / ROW_SIZE);

@@ -1,3 +1,7 @@
+pub mod Filled
+pub mod Words
+pub mod Rows
 pub mod Lines
-pub mod Tested
+pub mod Tests
+pub mod Passed
 pub mod Printed

@@ -1,5 +1,6 @@
-// Numbers and lines put into a lent buffer, and with them a whole sheet from its tables. The crate rests on `sheet`, whose tests
-// of a line it makes on the tables too, and on `scope`: every promise is an equation with what is printed there.
+// The writer of sheets. The lines of the sheet that words hold are tested from the first, as the reader would test them, and then put
+// into a lent buffer, if they fit there. The crate rests on `line`, which puts a line, on `words` and on `scope`.
 mod entries;
-pub mod line;
+mod faults;
+mod rows;
 pub mod write;

@@ -1,135 +1,80 @@
--- Lines of three or four fields, and the lines of lent tables one by one. Assumes nothing.
-use Prim.Native.Nat.{ℕ, zero, suc, _+_, _-_, _≤_, _<_}
-use native.Mathlib.Decide.{decLe}
+-- The lines of a held sheet, one by one. Assumes nothing.
+use Prim.Native.Nat.{ℕ, zero, suc, _+_, _≤_, _<_}
+use native.Mathlib.Nat.{zero-add, add-zero, suc-add}
 use native.Mathlib.Omega.{arith}
-use mathlib.Core.Bool.{Bool, true, false}
-use mathlib.Core.List.{List, [], _∷_, _++_}
-use mathlib.Core.Option.{Option, none, some, Option·some-injective}
+use mathlib.Core.List.{List, [], _∷_, _++_, map}
 use mathlib.Core.Path.{_≡_, refl, sym, ap, subst, _∙_}
-use lib.Dec.{eqb}
-use lib.ListN.{length, getD, length-append, List·getD-append}
-use lib.Seq.{getD-append-add}
-use borrow.Author.Tests.{ne-eqb, le-ltb, lt-ltb}
-use Rattle.scope.specs.Sheet.{Number, plus, Letter, Line, line, filled}
-use Rattle.scope.specs.Reading.{when, joined, formed}
-use Rattle.scope.specs.Tables.{Tables}
-use Rattle.scope.specs.Writing.{entries}
-use Rattle.scope.specs.Checking.{gateAt, ruleAt, wishAt, tableLines}
-use Rattle.scope.specs.laws.Tests.{clash}
-use Rattle.scope.specs.laws.Writing.{length-entries}
-use Rattle.scope.specs.laws.Held.{entry-at}
-use Rattle.sheet.specs.Lines.{letterFrom, numbersFrom, lineFrom}
-use Rattle.sheet.specs.Columns.{numberFrom}
-use Rattle.sheet.specs.declared.field.Number as field
-use Rattle.sheet.specs.declared.line.Letter as letters
-use Rattle.sheet.specs.declared.line.Line as made
-use Rattle.writer.specs.Entries.{Is, afterHead, lineAt}
+use lib.ListN.{length, getD}
+use Rattle.scope.specs.Sheet.{Sheet, H, Line, line, gateLine, ruleLine, wishLine, endLine, body, sheetLines}
+use Rattle.scope.specs.Words.{word, noGate, held}
+use Rattle.scope.specs.laws.Lists.{to-right}
+use Rattle.scope.specs.laws.Writing.{length-lines}
+use Rattle.words.specs.laws.Held.{held-gates, held-rules, held-wishes, held-gate, held-rule, held-wish}
+use Rattle.writer.specs.Entries.{LineOf}
+use Rattle.writer.specs.Rows.{Stands, Is, lineOf, lineAt}
+use Rattle.writer.specs.declared.rows.Row.{Row}
+use Rattle.writer.specs.declared.entries.Entry.{Entry}
+use Rattle.writer.specs.declared.entries.Entry.the-variants.{Head, Rule, Wish, End}
 
--- ---- three or four fields
+-- ---- lines of one kind, and those after them
 
-by-width : (P : ℕ → Type 0) → P 3 → P 4 → (n : ℕ) → 3 ≤ n → n ≤ 4 → P n
-by-width P p q n l h = go (decLe 4 n)
-  where
-    go : Dec (4 ≤ n) → P n
-    go (yes i) = let e : n ≡ 4 = omega arith in subst P (sym e) q
-    go (no i) = let e : n ≡ 3 = omega arith in subst P (sym e) p
+module _ {X : Type 0} (f : X → Line) (more : List Line) (d : Line) where
+  among : (e : X) (xs : List X) (i : ℕ) → i < length xs → getD (map f xs ++ more) i d ≡ f (getD xs i e)
+  among e [] i h = absurd (omega arith)
+  among e (x ∷ xs) zero h = refl
+  among e (x ∷ xs) (suc i) h = among e xs i (omega arith)
 
--- unused fields hold 0
-one-used : (x : Number) (n : ℕ) → 3 ≤ n → n ≤ 4 → filled n (x ∷ plus 0 ∷ plus 0 ∷ []) ≡ filled n (x ∷ [])
-one-used x = by-width (λ n. filled n (x ∷ plus 0 ∷ plus 0 ∷ []) ≡ filled n (x ∷ [])) refl refl
+  past : (xs : List X) (i : ℕ) → getD (map f xs ++ more) (length xs + i) d ≡ getD more i d
+  past [] i = rw zero-add
+  past (x ∷ xs) i = rw suc-add (past xs i)
 
-two-used : (x y : Number) (n : ℕ) → 3 ≤ n → n ≤ 4 → filled n (x ∷ y ∷ plus 0 ∷ []) ≡ filled n (x ∷ y ∷ [])
-two-used x y = by-width (λ n. filled n (x ∷ y ∷ plus 0 ∷ []) ≡ filled n (x ∷ y ∷ [])) refl refl
+-- ---- the lines of a sheet
 
--- ---- what a line of the code is
+module _ (n : ℕ) (t : Sheet) where
+  abbrev first : Line
+  first = line H []
 
-pub record Parts (n : ℕ) (l : made.Line) (s : Line) : Type 0 where
-  pub letter : letterFrom (l .letter) ≡ some (s .letter)
-  pub fields : numbersFrom n (l .numbers) ≡ s .fields
+  abbrev end : List Line
+  end = endLine n (length (body n t)) ∷ []
 
-pub line-parts : (n : ℕ) (l : made.Line) (s : Line) → lineFrom n l ≡ some s → Parts n l s
-unfolding lineFrom
-line-parts n l s e = go (letterFrom (l .letter)) refl (eqb (l .column) 0) e
-  where
-    go : (o : Option Letter) → letterFrom (l .letter) ≡ o → (f : Bool) → joined o (when f (numbersFrom n (l .numbers))) ≡ some s → Parts n l s
-    go none h f e = clash (ap formed e) refl
-    go (some c) h true e = let f : line c (numbersFrom n (l .numbers)) ≡ s = Option·some-injective (line c (numbersFrom n (l .numbers))) s e in record { letter = h ∙ ap (λ m. some (m .letter)) f; fields = ap (λ m. m .fields) f }
-    go (some c) h false e = clash (ap formed e) refl
+  abbrev wishes : List Line
+  wishes = map (wishLine n) (t .wishes) ++ end
 
-module _ (n : ℕ) (l : made.Line) (s : Line) (e : lineFrom n l ≡ some s) where
-  pub letter-is : {c : Letter} → letterFrom (l .letter) ≡ some c → s .letter ≡ c
-  letter-is {c} h = Option·some-injective (s .letter) c (sym (line-parts n l s e .letter) ∙ h)
+  abbrev rules : List Line
+  rules = map (ruleLine n) (t .rules) ++ wishes
 
-  pub no-line : {P : Type 0} → letterFrom (l .letter) ≡ none → P
-  no-line h = clash refl (ap formed (sym (line-parts n l s e .letter) ∙ h))
+  after-head : (i : ℕ) → getD (sheetLines n t) (suc i) first ≡ getD (map (gateLine n) (t .gates) ++ rules) i first
+  unfolding body
+  after-head i = ap (λ ls. getD ls i first) (to-right (map (gateLine n) (t .gates)) (map (ruleLine n) (t .rules)) (map (wishLine n) (t .wishes)) end)
 
--- ---- line k of the tables
+  after-gates : (i : ℕ) → getD (sheetLines n t) (suc (length (t .gates) + i)) first ≡ getD rules i first
+  after-gates i = after-head (length (t .gates) + i) ∙ past (gateLine n) rules first (t .gates) i
 
--- after some others
-getD-right : {A : Type 0} (r s : List A) (k m : ℕ) (d : A) → length r ≡ m → m ≤ k → getD (r ++ s) k d ≡ getD s (k - m) d
-getD-right r s k m d e h = let f : k ≡ length r + (k - m) = omega arith in ap (λ j. getD (r ++ s) j d) f ∙ getD-append-add r s (k - m) d
+  after-rules : (i : ℕ) → getD (sheetLines n t) (suc (length (t .gates) + (length (t .rules) + i))) first ≡ getD wishes i first
+  after-rules i = after-gates (length (t .rules) + i) ∙ past (ruleLine n) wishes first (t .rules) i
 
--- before some others
-getD-left : {A : Type 0} (r s : List A) (k m : ℕ) (d : A) → length r ≡ m → k < m → getD (r ++ s) k d ≡ getD r k d
-getD-left r s k m d e h = List·getD-append r s d k (omega arith)
+-- ---- on the words u, by what line k is of
 
-module _ (n : ℕ) (u : Tables) (d : Line) where
-  abbrev g : ℕ
-  g = u .gates
+pub line-is : (n : ℕ) → 3 ≤ n → (u : List ℕ) (k : ℕ) (e : Entry) → LineOf u k e → lineAt n u k ≡ lineOf n u e
+unfolding body
+line-is n wide u k Head h = rw h
+line-is n wide u k (Entry.Gate i) (h, e) =
+    rw e
+    (after-head n (held u) i ∙ among (gateLine n) (rules n (held u)) (first n (held u)) noGate (held u .gates) i (omega (arith, held-gates u))
+    ∙ ap (gateLine n) (held-gate u i h))
+line-is n wide u k (Rule i) (h, e) =
+    rw e
+    ((rw (held-gates u) at (after-gates n (held u) i)) ∙ among (ruleLine n) (wishes n (held u)) (first n (held u)) 0 (held u .rules) i (omega (arith, held-rules u))
+    ∙ ap (ruleLine n) (held-rule u i h))
+line-is n wide u k (Wish i) (h, e) =
+    rw e
+    ((rw (held-gates u, held-rules u) at (after-rules n (held u) i)) ∙ among (wishLine n) (end n (held u)) (first n (held u)) [] (held u .wishes) i (omega (arith, held-wishes u))
+    ∙ ap (wishLine n) (held-wish u i h))
+line-is n wide u k End h =
+    let i : k ≡ suc (word u 2 + (word u 3 + word u 4)) = omega arith in
+    let w : word u 4 ≡ length (held u .wishes) + 0 = omega (arith, held-wishes u) in
+    ap (lineAt n u) i ∙ (rw (held-gates u, held-rules u) at (after-rules n (held u) (word u 4)))
+    ∙ ap (λ j. getD (wishes n (held u)) j (first n (held u))) w ∙ past (wishLine n) (end n (held u)) (first n (held u)) (held u .wishes) 0 ∙ ap (endLine n) (length-lines n wide u)
 
-  abbrev r : ℕ
-  r = u .rules
-
-  abbrev w : ℕ
-  w = u .wishes
-
-  -- the lines of each kind
-  gates : List Line
-  gates = entries (gateAt n u) g
-
-  rules : List Line
-  rules = entries (ruleAt n u) r
-
-  wishes : List Line
-  wishes = entries (wishAt n u) w
-
-  both-length : length (gates ++ rules) ≡ g + r
-  unfolding gates rules
-  both-length = simp (length-append, length-entries)
-
-  after-head : (i : ℕ) → i < g + r + w → getD (gates ++ rules ++ wishes) i d ≡ afterHead n u i
-  unfolding gates rules wishes
-  after-head i h = go (decLe g i) (decLe r (i - g))
-    where
-      go : Dec (g ≤ i) → Dec (r ≤ i - g) → getD (gates ++ rules ++ wishes) i d ≡ afterHead n u i
-      go (no a) b =
-          let l : i < g = omega arith in
-          getD-left (gates ++ rules) wishes i (g + r) d both-length (omega arith) ∙ getD-left gates rules i g d (length-entries (gateAt n u) g) l ∙ entry-at (gateAt n u) d g i l ∙ rw (lt-ltb i g l)
-      go (yes a) (no b) =
-          let l : i - g < r = omega arith in
-          getD-left (gates ++ rules) wishes i (g + r) d both-length (omega arith) ∙ getD-right gates rules i g d (length-entries (gateAt n u) g) a ∙ entry-at (ruleAt n u) d r (i - g) l ∙ rw (le-ltb i g a, lt-ltb (i - g) r l)
-      go (yes a) (yes b) =
-          let e : i - (g + r) ≡ i - g - r = omega arith in
-          getD-right (gates ++ rules) wishes i (g + r) d both-length (omega arith) ∙ entry-at (wishAt n u) d w (i - (g + r)) (omega arith) ∙ rw (le-ltb i g a, le-ltb (i - g) r b, e)
-
-  pub line-at : (k : ℕ) → k < 1 + g + r + w → getD (tableLines n u) k d ≡ lineAt n u k
-  unfolding tableLines lineAt gates rules wishes
-  line-at zero h = refl
-  line-at (suc i) h = let e : suc i - 1 ≡ i = omega arith in after-head i (omega arith) ∙ rw (ne-eqb (suc i) 0 (λ z. omega arith), e)
-
--- ---- lines made of three numbers
-
-module _ (l : made.Line) (c : Letter) where
-  pub is-three : {x y z p q s : Number} → Is l (λ n. line c (filled n (x ∷ y ∷ z ∷ []))) → x ≡ p → y ≡ q → z ≡ s → Is l (λ n. line c (filled n (p ∷ q ∷ s ∷ [])))
-  is-three i e f g = rw (← e, ← f, ← g) i
-
-  pub is-two : {x y z p q : Number} → Is l (λ n. line c (filled n (x ∷ y ∷ z ∷ []))) → x ≡ p → y ≡ q → z ≡ plus 0 → Is l (λ n. line c (filled n (p ∷ q ∷ [])))
-  is-two {p} {q} i e f g = λ n a b. is-three i e f g n a b ∙ ap (λ xs. some (line c xs)) (two-used p q n a b)
-
-  pub is-one : {x y z p : Number} → Is l (λ n. line c (filled n (x ∷ y ∷ z ∷ []))) → x ≡ p → y ≡ plus 0 → z ≡ plus 0 → Is l (λ n. line c (filled n (p ∷ [])))
-  is-one {p} i e f g = λ n a b. is-three i e f g n a b ∙ ap (λ xs. some (line c xs)) (one-used p n a b)
-
--- the letter, and three numbers before a zero
-pub made-line : (letter : letters.Letter) (c : Letter) (x y z o : field.Number) → letterFrom letter ≡ some c → numberFrom o ≡ plus 0 → Is (record { letter = letter; column = 0; numbers = x ∷ y ∷ z ∷ o ∷ [] }) (λ n. line c (filled n (numberFrom x ∷ numberFrom y ∷ numberFrom z ∷ [])))
-unfolding lineFrom numbersFrom
-made-line letter c x y z o e f = by-width (λ n. lineFrom n (record { letter = letter; column = 0; numbers = x ∷ y ∷ z ∷ o ∷ [] }) ≡ some (line c (filled n (numberFrom x ∷ numberFrom y ∷ numberFrom z ∷ [])))) (rw e) (rw e (ap (λ m. some (line c (numberFrom x ∷ numberFrom y ∷ numberFrom z ∷ m ∷ []))) f))
+pub row-of : (u : List ℕ) (k : ℕ) (x : Entry) → LineOf u k x → {e : Entry} → x ≡ e → {r : Row} → Is r (λ n. lineOf n u e) → Is r (λ n. lineAt n u k)
+row-of u k x h {e} same {r} i n wide narrow = subst (Stands n r) (sym (line-is n wide u k e (subst (LineOf u k) same h))) (i n wide narrow)

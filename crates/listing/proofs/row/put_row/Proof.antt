@@ -3,7 +3,7 @@
 use native.Mathlib.Omega.{arith}
 use borrow.Author.Needs.{needs}
 use Rattle.scope.specs.laws.Outputs.{row-fits}
-use Rattle.listing.specs.Rows.{row-numbers}
+use Rattle.listing.specs.laws.Rows.{row-numbers}
 use Rattle.listing.proofs.row.put_row.Statement.{statement}
 use Rattle.listing.proofs.row.put_row.Tie as tie
 

@@ -5,7 +5,8 @@ use native.Mathlib.Omega.{arith}
 use lib.ListN.{length, getD}
 use borrow.Author.Needs.{needs}
 use Rattle.scope.specs.Program.{row, patternRow}
-use Rattle.listing.specs.Rows.{row-size, Put, put-none, put-one-more}
+use Rattle.listing.specs.Rows.{Put}
+use Rattle.listing.specs.laws.Rows.{row-size, put-none, put-one-more}
 use Rattle.listing.proofs.rows.put_patterns.Statement.{statement}
 use Rattle.listing.proofs.rows.put_patterns.Tie as tie
 

@@ -8,7 +8,8 @@ use borrow.Author.Needs.{needs}
 use Rattle.scope.specs.Meaning.{bits}
 use Rattle.scope.specs.Program.{row, switchRow}
 use Rattle.scope.specs.laws.Points.{length-bits}
-use Rattle.listing.specs.Rows.{row-size, Put, put-none, put-one-more}
+use Rattle.listing.specs.Rows.{Put}
+use Rattle.listing.specs.laws.Rows.{row-size, put-none, put-one-more}
 use Rattle.listing.proofs.rows.put_switches.Statement.{statement}
 use Rattle.listing.proofs.rows.put_switches.Tie as tie
 
@@ -63,7 +64,7 @@ loop-again c =
     let e : i + 1 - 1 ≡ i = omega arith in (
       omega arith,
       n ∙ s .loop .inv .1,
-      put-one-more switchRow (a .out .now) (a .at) (bits (a .a) (a .plan .0)) i (s .loop .out) (o .last .0) false (d .result) (row "S" (i + 1) (f .result) 0) (s .loop .inv .2) (rw (length-bits (a .a) (a .plan .0)) (omega arith)) (sym (rw e at (d .ensures))) (omega arith) (ap (λ m. row "S" (i + 1) m 0) (f .ensures .0)) (row-size "S" (i + 1) (f .result) 0 (omega arith) (f .ensures .1) (omega arith)) (rw (c .before .before .before .wide .ensures) at (o .ensures)),
+      put-one-more switchRow (a .out .now) (a .at) (bits (a .a) (a .plan .0)) i (s .loop .out) (o .last .0) false (d .result) (row "S" (i + 1) (f .result) 0) (s .loop .inv .2) (rw (length-bits (a .a) (a .plan .0)) (omega arith)) (sym (rw e at (d .ensures))) (omega arith) (ap (λ m. row "S" (i + 1) m 0) (f .ensures .0)) (row-size "S" (i + 1) (f .result) 0 (omega arith) (omega (arith, f .ensures .1)) (omega arith)) (rw (c .before .before .before .wide .ensures) at (o .ensures)),
     )
 
 same-length : tie.Need-same-length Inv-loop μ-loop

@@ -1,85 +1,95 @@
--- `write::put_lines` meets its contract: the first k lines stand at the beginning of the buffer, and each turn puts the next one behind them.
--- Assumes nothing.
+-- The first k lines stand at the beginning of the buffer, and each turn puts the next one behind them.
+use Prim.Native.Nat.{_+_, _-_, _*_, _≤_}
+use Rattle.line.specs.Put.{put}
+use Rattle.scope.specs.Sheet.{text, sheetLines}
+use Rattle.scope.specs.Words.{held}
+use Rattle.writer.specs.laws.Printed.{few-lines, numbers-fit, row-bytes, line-room, line-good, none-put, next-put, all-put}
 use borrow.Author.Needs.{needs}
-use Prim.Native.Nat.{_+_, _*_, _-_, _≤_}
-use native.Mathlib.Omega.{arith}
-use mathlib.Core.Path.{_≡_, refl, sym, ap, _∙_}
 use lib.ListN.{length, take}
-use lib.Seq.{take-all}
-use Rattle.scope.specs.Sheet.{text}
-use Rattle.scope.specs.Checking.{tableLines}
-use Rattle.scope.specs.laws.Writing.{length-lines}
-use Rattle.sheet.specs.Tables.{lentTables}
-use Rattle.writer.specs.Put.{put, put-nothing}
-use Rattle.writer.specs.Entries.{lineAt}
-use Rattle.writer.specs.laws.Printed.{line-room, line-good, next-line}
+use mathlib.Core.Path.{_≡_, refl, ap, _∙_}
+use native.Mathlib.Omega.{arith}
 use Rattle.writer.proofs.write.put_lines.Statement.{statement}
 use Rattle.writer.proofs.write.put_lines.Tie as tie
 
 abbrev Inv-loop : tie.InvT-loop
-Inv-loop out₀ kind left right rule first second third all n size count k₀ out k = (k ≤ count) × (length out ≡ length out₀) × (out ≡ put out₀ 0 (text (take k (tableLines n (lentTables all kind left right rule first second third)))))
+Inv-loop out₀ sheet n size count k₀ out k = (k ≤ count + 1) × (length out ≡ length out₀) × (out ≡ put out₀ 0 (text (take k (sheetLines n (held sheet)))))
 
 abbrev μ-loop : tie.MeasureT-loop
-μ-loop out₀ kind left right rule first second third all n size count k₀ out k = count - k
+μ-loop out₀ sheet n size count k₀ out k = count + 1 - k
 
 line-count-requires : tie.Need-line-count-requires Inv-loop μ-loop
 line-count-requires c κs = search needs
 
 loop-holds : tie.Need-loop-holds Inv-loop μ-loop
-unfolding text
-loop-holds c = (search needs, refl, sym (put-nothing _ 0))
-
-line-of-requires : tie.Need-line-of-requires Inv-loop μ-loop
-line-of-requires c κs = search needs
-
-mul-put-sheet-line : tie.Need-mul-put-sheet-line Inv-loop μ-loop
-mul-put-sheet-line c =
-    let s = c .before .before .before .before .before .before .before .before .before .before .before .before .before in
+loop-holds c =
+    let s = c .before .before in
     let a = s .args in
-    let u = lentTables (a .all) (a .kind .now) (a .left .now) (a .right .now) (a .rule .now) (a .first .now) (a .second .now) (a .third .now) in
-    let l = c .before .before .before .loop in
-    let r : l .k * a .size + a .size ≤ length (a .out .now) = line-room (l .k) (c .before .before .before .before .line-count .result) (a .size) (length (a .out .now)) (c .before .before .loop-test .taken) (rw (c .before .before .before .before .line-count .ensures) (s .pre .4)) in
+    let u = a .sheet .now in
+    let v = s .pre .3 in
+    (omega arith, refl, none-put (a .n) (s .pre .0) u v (a .size) (s .pre .2) (a .out .now) (s .pre .4))
+
+row-at-requires : tie.Need-row-at-requires Inv-loop μ-loop
+row-at-requires c κs =
+    let s = c .before .before .before .before in
+    (s .pre .3, omega (arith, c .loop-test .taken, c .before .before .line-count .ensures))
+
+mul-put-line : tie.Need-mul-put-line Inv-loop μ-loop
+mul-put-line c =
+    let s = c .before .before .before .before .before .before .before in
+    let a = s .args in
+    let u = a .sheet .now in
+    let v = s .pre .3 in
+    let k = c .before .before .before .before .loop in
+    let r = line-room (a .n) (s .pre .0) u v (a .size) (s .pre .2) (a .out .now) (s .pre .4) (k .k) (omega (arith, c .before .before .before .loop-test .taken, c .before .before .before .before .before .line-count .ensures)) in
     search needs
 
-put-sheet-line-requires : tie.Need-put-sheet-line-requires Inv-loop μ-loop
-put-sheet-line-requires c κs =
-    let s = c .before .before .before .before .before .before .before .before .before .before .before .before .before in
+put-line-requires : tie.Need-put-line-requires Inv-loop μ-loop
+put-line-requires c κs =
+    let s = c .before .before .before .before .before .before .before in
     let a = s .args in
-    let u = lentTables (a .all) (a .kind .now) (a .left .now) (a .right .now) (a .rule .now) (a .first .now) (a .second .now) (a .third .now) in
-    let l = c .before .before .before .loop in
-    let r : l .k * a .size + a .size ≤ length (a .out .now) = line-room (l .k) (c .before .before .before .before .line-count .result) (a .size) (length (a .out .now)) (c .before .before .loop-test .taken) (rw (c .before .before .before .before .line-count .ensures) (s .pre .4)) in
-    ((lineAt (a .n) u (l .k), c .before .line-of .ensures (a .n) (s .pre .0) (s .pre .1), line-good (a .n) u (s .pre .3) (l .k) (omega (arith, length-lines (a .n) u, c .before .before .before .before .line-count .ensures, c .before .before .loop-test .taken))), s .pre .1, omega (arith, s .pre .2, l .inv .1))
+    let u = a .sheet .now in
+    let v = s .pre .3 in
+    let k = c .before .before .before .before .loop in
+    let h : k .k ≤ c .before .before .before .before .before .line-count .result = c .before .before .before .loop-test .taken in
+    let b = rw (c .before .before .before .before .before .line-count .ensures) at h in
+    let r = line-room (a .n) (s .pre .0) u v (a .size) (s .pre .2) (a .out .now) (s .pre .4) (k .k) b in
+    (s .pre .1, numbers-fit (c .before .before .row-at .ensures (a .n) (s .pre .0) (s .pre .1)) (line-good (a .n) (s .pre .0) u v (a .size) (s .pre .2) (a .out .now) (s .pre .4) (k .k) b), omega (arith, s .pre .2, k .inv .1))
 
 add-k : tie.Need-add-k Inv-loop μ-loop
-add-k c = search needs
+add-k c =
+    let s = c .before .before .before .before .before .before .before .before .before .before in
+    let a = s .args in
+    let u = a .sheet .now in
+    let v = s .pre .3 in
+    omega (arith, few-lines (a .n) (s .pre .0) u v, c .before .before .before .before .before .before .loop-test .taken, c .before .before .before .before .before .before .before .before .line-count .ensures)
 
 loop-less : tie.Need-loop-less Inv-loop μ-loop
 loop-less c = search needs
 
 loop-again : tie.Need-loop-again Inv-loop μ-loop
 loop-again c =
-    let s = c .before .before .before .before .before .before .before .before .before .before .before .before .before .before .before .before in
+    let s = c .before .before .before .before .before .before .before .before .before .before in
     let a = s .args in
-    let u = lentTables (a .all) (a .kind .now) (a .left .now) (a .right .now) (a .rule .now) (a .first .now) (a .second .now) (a .third .now) in
-    let l = c .before .before .before .before .before .before .loop in
-    let o = c .before .before .put-sheet-line in
-    let n = length-lines (a .n) u in
-    let h = c .before .before .before .before .before .loop-test .taken in
-    let m : length (o .last .0) ≡ length (l .out) = search needs in (
-      omega (arith, h),
-      m ∙ l .inv .1,
-      next-line (a .n) u (s .pre .3) (a .out .now) (l .k) (a .size) (l .out) (o .last .0) (s .pre .2) (rw n (s .pre .4)) (omega (arith, n, c .before .before .before .before .before .before .before .line-count .ensures, h)) (l .inv .2) (o .ensures (lineAt (a .n) u (l .k)) (c .before .before .before .before .line-of .ensures (a .n) (s .pre .0) (s .pre .1))),
-    )
+    let u = a .sheet .now in
+    let v = s .pre .3 in
+    let k = c .before .before .before .before .before .before .before .loop in
+    let o = c .before .before .put-line in
+    let h : k .k ≤ c .before .before .before .before .before .before .before .before .line-count .result = c .before .before .before .before .before .before .loop-test .taken in
+    let b = rw (c .before .before .before .before .before .before .before .before .line-count .ensures) at h in
+    let m : length (o .last .0) ≡ length (k .out) = search needs in
+    let p = o .ensures ∙ ap (put (k .out) (k .k * a .size)) (row-bytes (c .before .before .before .before .before .row-at .ensures (a .n) (s .pre .0) (s .pre .1))) in
+    (omega arith, m ∙ k .inv .1, next-put (a .n) (s .pre .0) u v (a .size) (s .pre .2) (a .out .now) (s .pre .4) (k .k) (k .out) (o .last .0) b (k .inv .2) p)
 
 same-length : tie.Need-same-length Inv-loop μ-loop
 same-length c = search needs
 
 returns : tie.Need-returns Inv-loop μ-loop
 returns c =
-    let s = c .before .before .before .before .before .before .before .before .before .before .before in
+    let s = c .before .before .before .before in
     let a = s .args in
-    let u = lentTables (a .all) (a .kind .now) (a .left .now) (a .right .now) (a .rule .now) (a .first .now) (a .second .now) (a .third .now) in
-    c .before .loop .inv .2 ∙ ap (λ r. put (a .out .now) 0 (text r)) (take-all (c .before .loop .k) (tableLines (a .n) u) (omega (arith, length-lines (a .n) u, c .before .before .line-count .ensures, c .loop-test .left)))
+    let u = a .sheet .now in
+    let v = s .pre .3 in
+    all-put (a .n) (s .pre .0) u v (a .size) (s .pre .2) (a .out .now) (s .pre .4) (c .before .loop .k) (c .before .loop .out) (omega (arith, c .loop-test .left, c .before .before .line-count .ensures)) (c .before .loop .inv .2)
 
 pub put-lines-spec : {M : Type 1} → statement M
 put-lines-spec =
@@ -89,9 +99,9 @@ put-lines-spec =
     μ-loop
     line-count-requires
     loop-holds
-    line-of-requires
-    mul-put-sheet-line
-    put-sheet-line-requires
+    row-at-requires
+    mul-put-line
+    put-line-requires
     add-k
     loop-less
     loop-again

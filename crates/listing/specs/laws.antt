@@ -1,0 +1,3 @@
+-- what is proved of the definitions
+pub mod Rows
+pub mod Listing
