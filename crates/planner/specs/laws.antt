@@ -1,4 +1,3 @@
-pub mod Arrays
-pub mod Jobs
 pub mod Listing
-pub mod Pairs
+pub mod Converted
+pub mod Reads

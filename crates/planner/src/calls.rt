@@ -1,10 +1,11 @@
 // The calls for C and Rust. Each returns the number, and writes every other figure through a pointer.
-use crate::outcome::Outcome;
-use crate::outcome::Rating;
 use crate::sheets;
 use crate::texts;
-use circuit::Plan;
-use sheet::tables::Counts;
+use jobs::outcome::Outcome;
+use jobs::outcome::Rating;
+use words::Plan;
+use words::Words;
+use words::convert::flag;
 use writer::write::write;
 ghost use mathlib.Core.List.{[], _∷_};
 ghost use mathlib.Core.Path.{_≡_};
@@ -16,8 +17,8 @@ ghost use Rattle.scope.specs.Jobs as jobs;
 ghost use Rattle.scope.specs.Jobs.{answered, IsAnswer, IsShortRun};
 ghost use Rattle.scope.specs.Writing.{written, IsWritten};
 ghost use Rattle.scope.specs.Program.{one, listingResult, IsListing};
-ghost use Rattle.sheet.specs.Tables.{counts, lentTables};
-ghost use Rattle.planner.specs.Figures.{resultOf, ratingOf, figures, ratingFigures};
+ghost use Rattle.scope.specs.Filling.{readResult, IsRead};
+ghost use Rattle.jobs.specs.Figures.{resultOf, ratingOf, figures, ratingFigures};
 
 // Hands the figures out.
 fn hand_out(
@@ -38,25 +39,15 @@ fn hand_out(
     r.number
 }
 
-fn flag(b: bool) -> u32
-    ensures { λ r. ⌜ r ≡ one b ⌝ }
-{
-    if b { 1 } else { 0 }
-}
-
 fn hand_out_rating(
     rating: Rating,
-    place: &mut usize,
-    column: &mut usize,
     cost: &mut u32,
     sound: &mut u32,
     pattern: &mut u32,
     length: &mut usize,
 ) -> u32
-    ensures { λ n. ⌜ ratingFigures (ratingOf rating) ≡ n ∷ now (place .exit) ∷ now (column .exit) ∷ now (cost .exit) ∷ now (sound .exit) ∷ now (pattern .exit) ∷ now (length .exit) ∷ [] ⌝ }
+    ensures { λ n. ⌜ ratingFigures (ratingOf rating) ≡ n ∷ rating .place ∷ rating .column ∷ now (cost .exit) ∷ now (sound .exit) ∷ now (pattern .exit) ∷ now (length .exit) ∷ [] ⌝ }
 {
-    *place = rating.place;
-    *column = rating.column;
     *cost = rating.cost;
     *sound = flag(rating.sound);
     *pattern = rating.pattern.0;
@@ -121,15 +112,10 @@ pub extern "C" fn comzsered_rating(
 ) -> u32
     ensures { λ r. ⌜ Gives (SheetRead fieldCount (now (sheet .entry))) (λ q. ratingFigures (jobs.ratingOf q plan)) (r ∷ now (place .exit) ∷ now (column .exit) ∷ now (cost .exit) ∷ now (sound .exit) ∷ now (pattern .exit) ∷ now (length .exit) ∷ []) ⌝ }
 {
-    hand_out_rating(
-        sheets::rate(sheet, Plan(plan)),
-        place,
-        column,
-        cost,
-        sound,
-        pattern,
-        length,
-    )
+    let rating = sheets::rate(sheet, Plan(plan));
+    *place = rating.place;
+    *column = rating.column;
+    hand_out_rating(rating, cost, sound, pattern, length)
 }
 
 #[no_mangle]
@@ -191,15 +177,10 @@ pub extern "C" fn comzsered_text_rating(
 ) -> u32
     ensures { λ r. ⌜ Gives (TextRead (now (text .entry))) (λ q. ratingFigures (jobs.ratingOf q plan)) (r ∷ now (place .exit) ∷ now (column .exit) ∷ now (cost .exit) ∷ now (sound .exit) ∷ now (pattern .exit) ∷ now (length .exit) ∷ []) ⌝ }
 {
-    hand_out_rating(
-        texts::rate(text, Plan(plan)),
-        place,
-        column,
-        cost,
-        sound,
-        pattern,
-        length,
-    )
+    let rating = texts::rate(text, Plan(plan));
+    *place = rating.place;
+    *column = rating.column;
+    hand_out_rating(rating, cost, sound, pattern, length)
 }
 
 #[no_mangle]
@@ -209,37 +190,49 @@ pub extern "C" fn comzsered_text_listing(text: &[u8], out: &mut [u8]) -> usize
     texts::print_listing(text, out)
 }
 
-// A sheet from its tables.
+// Tables from a sheet and from a typed text, and a sheet from its tables.
+
+#[no_mangle]
+pub extern "C" fn comzsered_read(
+    sheet: &[u8],
+    tables: &mut Words,
+    place: &mut usize,
+    column: &mut usize,
+) -> u32
+    ensures { λ r. ⌜ IsRead (SheetRead fieldCount (now (sheet .entry))) (now (tables .entry)) (readResult r (now (place .exit)) (now (column .exit)) (now (tables .exit))) ⌝ }
+{
+    let cause = sheets::read(sheet, tables);
+    *place = cause.place;
+    *column = cause.column;
+    cause.number
+}
+
+#[no_mangle]
+pub extern "C" fn comzsered_text_read(
+    text: &[u8],
+    tables: &mut Words,
+    place: &mut usize,
+    column: &mut usize,
+) -> u32
+    ensures { λ r. ⌜ IsRead (TextRead (now (text .entry))) (now (tables .entry)) (readResult r (now (place .exit)) (now (column .exit)) (now (tables .exit))) ⌝ }
+{
+    let cause = texts::read(text, tables);
+    *place = cause.place;
+    *column = cause.column;
+    cause.number
+}
 
 #[no_mangle]
 pub extern "C" fn comzsered_write(
-    switches: u32,
-    faults: u32,
-    gates: u32,
-    rules: u32,
-    wishes: u32,
-    kind: &[u8],
-    left: &[u32],
-    right: &[u32],
-    rule: &[u32],
-    first: &[u32],
-    second: &[u32],
-    third: &[u32],
+    tables: &Words,
     out: &mut [u8],
     place: &mut usize,
     column: &mut usize,
     length: &mut usize,
 ) -> u32
-    ensures { λ r. ⌜ IsWritten fieldCount (lentTables (counts switches faults gates rules wishes) (now (kind .entry)) (now (left .entry)) (now (right .entry)) (now (rule .entry)) (now (first .entry)) (now (second .entry)) (now (third .entry))) (now (out .entry)) (written r (now (place .exit)) (now (column .exit)) (now (length .exit)) (now (out .exit))) ⌝ }
+    ensures { λ r. ⌜ IsWritten fieldCount (now (tables .entry)) (now (out .entry)) (written r (now (place .exit)) (now (column .exit)) (now (length .exit)) (now (out .exit))) ⌝ }
 {
-    let c = Counts {
-        switches,
-        faults,
-        gates,
-        rules,
-        wishes,
-    };
-    let w = write(kind, left, right, rule, first, second, third, c, out);
+    let w = write(tables, out);
     *place = w.place;
     *column = w.column;
     *length = w.length;

@@ -1,15 +1,11 @@
 // The jobs over bytes: Answer, Short run and Rating, for every byte string, every lent list and every number, and the calls
-// for C, of the jobs and of the writer of sheets. It rests on `sheet` and `text` for reading, on `circuit` and `search` for the
-// jobs, on `listing` and `writer` for what is printed.
+// for C, of the jobs, of reading into tables and of writing them. It rests on `sheet` and `text` for reading, on `jobs`, and on `listing`
+// and `writer` for what is printed.
 //
-// What is exported, which is what can be reached from outside this crate, is the modules `outcome`, `sheets` and `texts` and the
-// calls for C: none has a `requires`. Each job is one function over tables, named `.._tables`, whose promise holds for every
-// source that they are of; the functions over bytes, for a sheet and for a typed text, read and call it.
-mod answer;
+// What is exported, which is what can be reached from outside this crate, is the modules `sheets` and `texts` and the calls for C: none
+// has a `requires`. Each function over bytes reads them into words of its own and hands these on.
 mod calls;
-pub mod outcome;
-mod pair;
 mod print;
-mod rating;
+mod read;
 pub mod sheets;
 pub mod texts;

@@ -1,59 +1,86 @@
-// The program's listing, over tables.
-use crate::answer::answer_tables;
-use crate::outcome::Outcome;
-use crate::rating::wide;
+// What the programs print, over what any reader told.
+use jobs::answer::answer;
+use jobs::outcome::Outcome;
+use jobs::outcome::refused;
 use listing::whole::MOST_BYTES;
+use listing::whole::ROOM;
+use listing::whole::Shown;
 use listing::whole::put_listing;
-use sheet::Tables;
-use writer::line::narrow;
+use words::Words;
+use words::convert::narrow;
+use words::refusal::Cause;
+use words::refusal::MALFORMED;
+use writer::write::write;
 ghost use mathlib.Core.Path.{_≡_};
 ghost use Prim.Native.Nat.{_<_};
-ghost use Rattle.scope.specs.Program.{third, listingResult, listingOf};
-ghost use Rattle.sheet.specs.Tables.{Sourced, AnySource};
-ghost use Rattle.planner.specs.Figures.{resultOf};
+ghost use Rattle.scope.specs.Causes.{Read};
+ghost use Rattle.scope.specs.Source.{Source};
+ghost use Rattle.scope.specs.Program.{third, listingResult, listingOf, convertedOf};
+ghost use Rattle.words.specs.Told.{told};
+ghost use Rattle.jobs.specs.Figures.{resultOf};
+ghost use Rattle.planner.specs.Steps.{Printable, shownOf};
 
-// The list that the program lends.
-const ROOM: usize = 4096;
+// The bytes of the longest sheet.
+const MOST_SHEET: usize = 9010;
 
 // The third number of the A line: the column of a malformed line, and otherwise the cost.
-fn figure(r: Outcome) -> u32
-    requires { ⌜ third (resultOf r) < 100000 ⌝ }
-    ensures { λ n. ⌜ n ≡ third (resultOf r) ⌝ }
+fn figure(o: Outcome) -> u32
+    requires { ⌜ third (resultOf o) < 100000 ⌝ }
+    ensures { λ n. ⌜ n ≡ third (resultOf o) ⌝ }
 {
-    if r.number == sheet::MALFORMED {
-        return narrow(r.column);
+    if o.number == MALFORMED {
+        return narrow(o.column);
     }
-    r.cost
+    o.cost
 }
 
-// Puts what the program prints for what any reader gives at the beginning of `out`, and returns its length.
-// A buffer that is shorter than the longest listing is left as it was, and the length is 0.
-pub fn print_tables(t: Tables, out: &mut [u8]) -> usize
-    requires { ⌜ Sourced t ⌝ }
-    ensures { λ n. ⌜ AnySource t (λ r. listingResult n (now (out .exit)) ≡ listingOf r (now (out .entry))) ⌝ }
+// What the listing shows of an outcome.
+fn shown(o: Outcome) -> Shown
+    requires { ⌜ Printable (resultOf o) ⌝ }
+    ensures { λ r. ⌜ r ≡ shownOf (resultOf o) ⌝ }
+{
+    let place = narrow(o.place);
+    let plan = o.plan;
+    Shown {
+        number: o.number,
+        place,
+        figure: figure(o),
+        found: o.number == 0,
+        plan,
+    }
+}
+
+// Puts what the program prints at the beginning of `out`, and returns its length. A buffer that is shorter than the longest
+// listing is left as it was, and the length is 0.
+pub fn put_output(read: Cause, sheet: &Words, out: &mut [u8]) -> usize
+    ghost { Read }
+    requires { λ r. ⌜ told read (now sheet) ≡ r ⌝ }
+    requires { λ r. ⌜ Source r ⌝ }
+    ensures { λ r n. ⌜ listingResult n (now (out .exit)) ≡ listingOf r (now (out .entry)) ⌝ }
 {
     if out.len() < MOST_BYTES {
         return 0;
     }
     let mut list = [0u32; ROOM];
-    let r = answer_tables(t, &mut list);
-    let first = t.first;
-    let second = t.second;
-    let third = t.third;
-    let w = wide(t.wishes);
-    let n = r.length;
-    let place = narrow(r.place);
-    put_listing(
-        out,
-        r.number,
-        place,
-        figure(r),
-        r.number == 0,
-        t.switches,
-        r.plan,
-        &first[..w],
-        &second[..w],
-        &third[..w],
-        &list[..n],
-    )
+    let o = answer(read, sheet, &mut list);
+    let n = o.length;
+    put_listing(out, shown(o), sheet, &list[..n])
+}
+
+// Puts the sheet, or the listing of a refusal, at the beginning of `out`, and returns its length. A buffer that is shorter than the
+// longest sheet is left as it was, and the length is 0.
+pub fn put_sheet(read: Cause, sheet: &Words, out: &mut [u8]) -> usize
+    ghost { Read }
+    requires { λ r. ⌜ told read (now sheet) ≡ r ⌝ }
+    requires { λ r. ⌜ Source r ⌝ }
+    ensures { λ r n. ⌜ listingResult n (now (out .exit)) ≡ convertedOf r (now (out .entry)) ⌝ }
+{
+    if out.len() < MOST_SHEET {
+        return 0;
+    }
+    if read.number != 0 {
+        let nothing = [0u32; 1];
+        return put_listing(out, shown(refused(read, 0)), sheet, &nothing[..0]);
+    }
+    write(sheet, out).length
 }

@@ -2,7 +2,7 @@
 -- Assumes nothing.
 use mathlib.Core.Path.{sym}
 use Rattle.scope.specs.laws.Given.{given-as, given-map}
-use Rattle.planner.specs.Figures.{ratingFigures}
+use Rattle.jobs.specs.Figures.{ratingFigures}
 use borrow.Author.Needs.{needs}
 use Rattle.planner.proofs.calls.comzsered_text_rating.Statement.{statement}
 use Rattle.planner.proofs.calls.comzsered_text_rating.Tie as tie
@@ -14,7 +14,7 @@ hand-out-rating-requires : tie.Need-hand-out-rating-requires
 hand-out-rating-requires c κs = search needs
 
 returns : tie.Need-returns
-returns c = given-as (sym (c .hand-out-rating .ensures)) (given-map ratingFigures (c .before .before .before .before .before .before .before .rate .ensures))
+returns c = given-as (sym (c .hand-out-rating .ensures)) (given-map ratingFigures (c .before .before .before .before .before .rate .ensures))
 
 pub comzsered-text-rating-spec : {M : Type 1} → statement M
 comzsered-text-rating-spec =

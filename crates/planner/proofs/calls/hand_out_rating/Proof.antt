@@ -12,7 +12,7 @@ flag-requires c κs = search needs
 returns : tie.Need-returns
 returns c =
     let r = c .before .args .rating in
-    ap (λ m. r .number ∷ r .place ∷ r .column ∷ r .cost ∷ m ∷ r .pattern .0 ∷ r .length ∷ []) (sym (c .flag .ensures))
+    ap (λ m. r .number ∷ r .place ∷ r .column ∷ r .cost ∷ m ∷ r .pattern .0 ∷ r .length ∷ []) (sym (c .flag .ensures .0))
 
 pub hand-out-rating-spec : {M : Type 1} → statement M
 hand-out-rating-spec = tie.close (tie.spec flag-requires returns)

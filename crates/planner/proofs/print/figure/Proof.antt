@@ -5,13 +5,13 @@ use Rattle.planner.proofs.print.figure.Statement.{statement}
 use Rattle.planner.proofs.print.figure.Tie as tie
 
 narrow-requires : tie.Need-narrow-requires
-narrow-requires c κs = rw (eq-eqb (c .before .before .args .r .number) 2 (c .if1 .taken)) at (c .before .before .pre)
+narrow-requires c κs = rw (eq-eqb (c .before .before .args .o .number) 2 (c .if1 .taken)) at (c .before .before .pre)
 
 returns : tie.Need-returns
-returns c = rw (eq-eqb (c .before .before .before .args .r .number) 2 (c .before .if1 .taken)) (c .narrow .ensures)
+returns c = rw (eq-eqb (c .before .before .before .args .o .number) 2 (c .before .if1 .taken)) (c .narrow .ensures)
 
 returns-2 : tie.Need-returns-2
-returns-2 c = rw (ne-eqb (c .before .before .args .r .number) 2 (c .if1 .left))
+returns-2 c = rw (ne-eqb (c .before .before .args .o .number) 2 (c .if1 .left))
 
 pub figure-spec : {M : Type 1} → statement M
 figure-spec = tie.close (tie.spec narrow-requires returns returns-2)
