@@ -5,8 +5,9 @@
  * combination, rules that must hold whatever the faults are, and wishes about the switches. The
  * planner finds the setting of the switches that keeps every rule under every combination of faults
  * and breaks as few wishes as possible. The same can be typed as a text, for which there are calls of
- * their own. A further call writes a sheet from tables: counts, and arrays of points and literals that
- * a program can edit. docs/FORMAT.md describes sheets, texts, tables and every rule in full.
+ * their own. Further calls read a sheet or a text into tables, a struct of words that a program can
+ * edit, and write tables as a sheet. docs/FORMAT.md describes sheets, texts, tables and every rule in
+ * full.
  *
  * Link with target/staticlib/libplanner.a, which 'rt staticlib planner' builds:
  *
@@ -45,30 +46,30 @@
  *
  * Tables
  *
- *   What a sheet says, as counts and arrays: how many switches, faults, gates, rules and wishes there
- *   are, and an array for each word of a gate, a rule or a wish.
+ *   What a sheet says, as a struct comzsered_tables of 1,461 words: how many switches, faults, gates,
+ *   rules and wishes there are, and room for the most gates, rules and wishes that there may be.
  *
- *    arrays                entry i, from 0, is                  its line on the sheet
- *    --------------------  -----------------------------------  ----------------------
- *    kind, left, right     gate i + 1: its letter 'N', 'A' or   N left 0 0
- *                          'O', its first point and its         A left right 0
- *                          second, which is 0 for 'N'           O left right 0
- *    rule                  rule i + 1: its point                R rule 0 0
- *    first, second, third  wish i + 1: three literals           W first second third
+ *    words     entry i, from 0, is                      its line on the sheet
+ *    --------  ---------------------------------------  ---------------------
+ *    gate[i]   gate i + 1: its letter 'N', 'A' or 'O',  N gate[i][1] 0 0
+ *              its first point, and its second, which   A gate[i][1] gate[i][2] 0
+ *              is 0 for 'N'                             O gate[i][1] gate[i][2] 0
+ *    rule[i]   rule i + 1: its point                    R rule[i] 0 0
+ *    wish[i]   wish i + 1: up to three literals, then   W and the three numbers
+ *              zeros
  *
- *   The literal k, switch k on, is the word 2k, and -k, switch k off, is 2k + 1. Zeros stand after the
- *   last literal of a wish. The word 1, which would be -0, is no literal.
+ *   The literal k, switch k on, is the word 2k, and -k, switch k off, is 2k + 1: COMZSERED_ON(k) and
+ *   COMZSERED_OFF(k). The word 1, which would be -0, is no literal.
  *
- *   The sheet of the text above has 2 switches, 2 faults, 3 gates, 1 rule and 2 wishes, and the
- *   arrays kind = O O O, left = 1 3 5, right = 2 4 6, rule = 7, first = 3 5, second = 0 0 and
- *   third = 0 0.
+ *   The tables of the text above have 2 switches, 2 faults, 3 gates, 1 rule and 2 wishes; the gates are
+ *   {'O', 1, 2}, {'O', 3, 4} and {'O', 5, 6}, the rule is 7, and the wishes are {3, 0, 0} and {5, 0, 0}.
  *
- *   An array may be longer than its count: what stands after the counted entries is not looked at.
+ *   Reading leaves zeros beyond the counts. Writing does not look at what stands there.
  *
  * The number
  *
- *   Answer, short run, rating and writing return a number, and write a place and a column. All three
- *   are 0 when the job is done. Lines, columns and bytes are counted from 1.
+ *   All calls but listing return a number, and write a place and a column. All three are 0 when the
+ *   job is done. Lines, columns and bytes are counted from 1.
  *
  *    number  cause                                                              place
  *    ------  -----------------------------------------------------------------  ----------------
@@ -82,8 +83,7 @@
  *         5  the line is gate 401, rule 65 or wish 65                           the line
  *         6  a point or literal is not allowed here, an unused field is not     the line
  *            0, or a literal follows a 0; of a text: there is no such switch
- *            or fault; of tables besides: no gate has this kind, or an array
- *            is too short to hold the entry
+ *            or fault; of tables besides: no gate has this letter
  *         7  the count of lines on the Z line is wrong                          the line
  *         8  there is no plan: for answer over all patterns, for short run      0
  *            over the given ones
@@ -114,8 +114,8 @@
  *   The causes are tried in this order, and the first that applies is returned: 1 or 12; the lines
  *   from the first, each for 2 to 7; 10 or 11; 9; 8. So 9 comes before 8: a list that is too short for
  *   the search is told as 9 even where there is no plan. Of tables the lines are tried from the first
- *   too, each for 4, 5 and 6, and then 13. So 405 gates are 5 at line 402 if all before are right, and
- *   6 at line 4 if gate 3 is wrong.
+ *   too, each for 4, 5 and 6, and then 13. So a count of 405 gates is 5 at line 402 if all 400 that
+ *   there is room for are right, and 6 at line 4 if gate 3 is wrong.
  *
  * What holds for every call
  *
@@ -124,9 +124,10 @@
  *   - No pointer may be null, also where the length beside it is 0.
  *   - The figures' pointers must be valid and point to different places. All figures are written in
  *     every case; those that the outcome does not name are 0.
- *   - Buffers do not overlap each other or the figures. Input, patterns and tables are only read.
+ *   - Buffers and tables do not overlap each other or the figures. What a call takes as const is only
+ *     read.
  *   - The time grows with 2^a and 2^f: a sheet with many switches and faults may take very long.
- *     Writing takes a time that grows with the lines alone.
+ *     Reading and writing take a time that grows with the bytes alone.
  */
 #ifndef COMZSERED_H
 #define COMZSERED_H
@@ -137,6 +138,15 @@
 #ifdef __cplusplus
 extern "C" {
 #endif
+
+/* As many of each as there may be. */
+#define COMZSERED_SWITCHES_MAX 20
+#define COMZSERED_FAULTS_MAX 16
+#define COMZSERED_GATES_MAX 400
+#define COMZSERED_RULES_MAX 64
+#define COMZSERED_WISHES_MAX 64
+/* The literals of a wish. */
+#define COMZSERED_LITERALS_MAX 3
 
 /* The longest sheet: 530 lines of 17 bytes. */
 #define COMZSERED_SHEET_MAX 9010
@@ -233,9 +243,48 @@ uint32_t comzsered_text_rating(const uint8_t *text, size_t text_len, uint32_t pl
                                size_t *length);
 size_t comzsered_text_listing(const uint8_t *text, size_t text_len, uint8_t *out, size_t out_len);
 
+/* What a sheet says, as told above. */
+typedef struct comzsered_tables {
+    uint32_t switches, faults, gates, rules, wishes;
+    /* A gate's letter, first point and second point. */
+    uint32_t gate[COMZSERED_GATES_MAX][3];
+    uint32_t rule[COMZSERED_RULES_MAX];
+    uint32_t wish[COMZSERED_WISHES_MAX][COMZSERED_LITERALS_MAX];
+} comzsered_tables;
+
+/* The words of tables: the library takes them one after another, with nothing between. */
+#define COMZSERED_TABLES_WORDS 1461
+
+#if defined(__cplusplus) && __cplusplus >= 201103L
+static_assert(sizeof(comzsered_tables) == COMZSERED_TABLES_WORDS * sizeof(uint32_t),
+              "comzsered_tables must be 1,461 words");
+#elif defined(__STDC_VERSION__) && __STDC_VERSION__ >= 201112L
+_Static_assert(sizeof(comzsered_tables) == COMZSERED_TABLES_WORDS * sizeof(uint32_t),
+               "comzsered_tables must be 1,461 words");
+#endif
+
+/* The words of the literals k and -k: switch k on, and switch k off. */
+#define COMZSERED_ON(k) (2 * (uint32_t)(k))
+#define COMZSERED_OFF(k) (2 * (uint32_t)(k) + 1)
+
 /*
- * Writing: tables as a sheet. switches to wishes are the counts, and the arrays are as told above, each
- * with its own length. With COMZSERED_SHEET_MAX bytes for out there is no number 13.
+ * Reading: a sheet, or a typed text, as tables. What the struct holds at first does not matter.
+ *
+ *   returned                  *tables afterwards
+ *   ------------------------  ------------------------------------------------------------
+ *   0                         the tables; every gate, rule and wish beyond the counts is 0
+ *   1 to 7; of a text 12 or   untouched
+ *   4 to 6
+ *
+ * *place and *column are as in the table of numbers; of a text *column is always 0.
+ */
+uint32_t comzsered_read(const uint8_t *sheet, size_t sheet_len, comzsered_tables *tables,
+                        size_t *place, size_t *column);
+uint32_t comzsered_text_read(const uint8_t *text, size_t text_len, comzsered_tables *tables,
+                             size_t *place, size_t *column);
+
+/*
+ * Writing: tables as a sheet. With COMZSERED_SHEET_MAX bytes for out there is no number 13.
  *
  *   returned     *length            out afterwards
  *   -----------  -----------------  ---------------------------------------------------------------
@@ -244,16 +293,12 @@ size_t comzsered_text_listing(const uint8_t *text, size_t text_len, uint8_t *out
  *
  * *place is as in the table of numbers, and *column is always 0.
  *
- * A sheet that was written is accepted, and reading it gives the tables again, up to their counts.
- * The tables of an accepted sheet are written as that sheet, byte for byte.
+ * A sheet that was written is accepted, and reading it gives the tables again, with zeros beyond the
+ * counts. What was read is written as the sheet that it was read from, byte for byte; of a text, as
+ * the sheet that the text stands for.
  */
-uint32_t comzsered_write(uint32_t switches, uint32_t faults, uint32_t gates, uint32_t rules,
-                         uint32_t wishes, const uint8_t *kind, size_t kind_len,
-                         const uint32_t *left, size_t left_len, const uint32_t *right,
-                         size_t right_len, const uint32_t *rule, size_t rule_len,
-                         const uint32_t *first, size_t first_len, const uint32_t *second,
-                         size_t second_len, const uint32_t *third, size_t third_len, uint8_t *out,
-                         size_t out_len, size_t *place, size_t *column, size_t *length);
+uint32_t comzsered_write(const comzsered_tables *tables, uint8_t *out, size_t out_len,
+                         size_t *place, size_t *column, size_t *length);
 
 #ifdef __cplusplus
 }

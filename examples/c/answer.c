@@ -28,6 +28,8 @@ static const char built_in[] =
 static uint8_t input[COMZSERED_TEXT_MAX + 1];
 /* Room for any list. */
 static uint32_t list[COMZSERED_LIST_MAX];
+/* What the input says, of which the counts are looked at; all 0 if it is refused. */
+static comzsered_tables tables;
 
 static size_t read_input(const char *name)
 {
@@ -64,15 +66,6 @@ static int is_text(const char *name)
     return length >= 5 && strcmp(name + length - 5, ".text") == 0;
 }
 
-/* The switches and faults of an accepted input: numbers of a sheet's first line, or those on the
-   first two lines of a text. */
-static void read_counts(int typed, unsigned *switches, unsigned *faults)
-{
-    const char *format = typed ? "switches %u faults %u" : "H%5u%5u";
-
-    sscanf((const char *)input, format, switches, faults);
-}
-
 /* Binary digit k, counted from 1 at the highest, of a number with so many digits. */
 static int digit(uint32_t number, unsigned k, unsigned digits)
 {
@@ -105,7 +98,6 @@ int main(int argc, char **argv)
 {
     size_t input_len, place, column, length, i;
     uint32_t number, plan, cost;
-    unsigned switches = 0, faults = 0;
     int typed;
 
     if (argc > 2) {
@@ -114,16 +106,17 @@ int main(int argc, char **argv)
     }
     typed = argc == 2 && is_text(argv[1]);
     input_len = argc == 2 ? read_input(argv[1]) : take_built_in();
-    if (typed)
+    if (typed) {
+        comzsered_text_read(input, input_len, &tables, &place, &column);
         number = comzsered_text_answer(input, input_len, list, COMZSERED_LIST_MAX, &place, &column,
                                        &plan, &cost, &length);
-    else
+    } else {
+        comzsered_read(input, input_len, &tables, &place, &column);
         number = comzsered_answer(input, input_len, list, COMZSERED_LIST_MAX, &place, &column,
                                   &plan, &cost, &length);
-    if (number == 0 || number == 8)
-        read_counts(typed, &switches, &faults);
+    }
     if (number == 0) {
-        print_plan(plan, cost, switches);
+        print_plan(plan, cost, tables.switches);
     } else if (number == 8) {
         printf("No plan passes every pattern.\n");
     } else {
@@ -136,6 +129,6 @@ int main(int argc, char **argv)
     }
     printf("Listed patterns: %lu\n", (unsigned long)length);
     for (i = 0; i < length; i++)
-        print_pattern(list[i], faults);
+        print_pattern(list[i], tables.faults);
     return 0;
 }

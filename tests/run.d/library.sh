@@ -32,9 +32,10 @@ trap 'rm -rf "$work"' EXIT
 trap 'fail "interrupted"; finish' HUP INT TERM
 
 archive=$root/target/staticlib/libplanner.a
-# The programs for sheets and for typed texts.
+# The programs: answers to sheets, answers to typed texts, and the sheets of typed texts.
 plan=$root/target/bin/plan
 typed=$root/target/bin/typed
+as_sheet=$root/target/bin/as_sheet
 # The archive of this repository is meant, whatever the caller's own settings are.
 unset COMZSERED_LIB_DIR
 
@@ -131,7 +132,10 @@ same_calls() {
 warnings='-Wall -Wextra -pedantic -Werror'
 # Twice, so that a missing guard shows.
 printf '#include "comzsered.h"\n#include "comzsered.h"\nint nothing;\n' >"$work/header.c"
-one_test "the header in C" gcc -std=c99 $warnings -I include -fsyntax-only "$work/header.c"
+for standard in c99 c11; do
+    one_test "the header in $standard" \
+        gcc -std=$standard $warnings -I include -fsyntax-only "$work/header.c"
+done
 if command -v g++ >/dev/null; then
     one_test "the header in C++" g++ $warnings -I include -fsyntax-only -x c++ "$work/header.c"
 else
@@ -141,13 +145,16 @@ one_test "the header's calls are the archive's" same_calls
 
 # ---- the programs' stored runs
 
-# Tries a program on each input of tests/runs/ of its form and says which listing is not the stored
-# one, byte for byte.
-stored_runs() { # PROGRAM FORM
+# Tries a program on each input of tests/runs/ of its form and says what is not printed as stored,
+# byte for byte: in the file with this ending, or in .expected where there is none. Refusals are
+# printed alike by all programs, so they are stored once.
+stored_runs() { # PROGRAM FORM ENDING
     n=0
     m=0
     for input in tests/runs/*."$2"; do
-        if limited 60 "$1" <"$input" | cmp - "${input%."$2"}.expected"; then
+        stored=${input%."$2"}.$3
+        [ -e "$stored" ] || stored=${input%."$2"}.expected
+        if limited 60 "$1" <"$input" | cmp - "$stored"; then
             n=$((n + 1))
         else
             echo "FAILED: $input"
@@ -167,16 +174,21 @@ same_listings() {
     done
 }
 
-if [ -x "$plan" ]; then
-    counted "the stored runs of plan" stored_runs "$plan" sheet
-else
-    fail "the stored runs of plan were not tried, as there is no target/bin/plan"
+# A program that was not built is a failure.
+is_there() { # PROGRAM
+    [ -x "$1" ] || fail "there is no ${1#"$root"/}, so it was not tried"
+    [ -x "$1" ]
+}
+
+if is_there "$plan"; then
+    counted "the stored runs of plan" stored_runs "$plan" sheet expected
 fi
-if [ -x "$typed" ]; then
-    counted "the stored runs of typed" stored_runs "$typed" text
+if is_there "$typed"; then
+    counted "the stored runs of typed" stored_runs "$typed" text expected
     one_test "the examples as sheets and as texts" same_listings
-else
-    fail "the stored runs of typed were not tried, as there is no target/bin/typed"
+fi
+if is_there "$as_sheet"; then
+    counted "the stored runs of as_sheet" stored_runs "$as_sheet" text as-sheet
 fi
 
 # ---- the examples
@@ -204,20 +216,20 @@ in_folder() { # FOLDER COMMAND...
     (cd "$1" && shift && "$@")
 }
 
-one_test "the C example is built" \
-    gcc -std=c99 -O2 $warnings -I include examples/c/answer.c "$archive" -o "$work/answer"
-one_test "the C example" prints "$work/answer" examples/c/answer.expected
-
-# The example that writes takes no file.
+# An example that takes no file.
 prints_alone() { # PROGRAM FILE
     limited 60 "$1" >"$work/printed" 2>&1
     echo "exit status $?" >>"$work/printed"
     diff "$2" "$work/printed"
 }
 
-one_test "the C example that writes is built" \
-    gcc -std=c99 -O2 $warnings -I include examples/c/write.c "$archive" -o "$work/write"
-one_test "the C example that writes" prints_alone "$work/write" examples/c/write.expected
+for example in answer write edit; do
+    one_test "the C example $example is built" gcc -std=c99 -O2 $warnings -I include \
+        "examples/c/$example.c" "$archive" -o "$work/$example"
+done
+one_test "the C example answer" prints "$work/answer" examples/c/answer.expected
+one_test "the C example write" prints_alone "$work/write" examples/c/write.expected
+one_test "the C example edit" prints_alone "$work/edit" examples/c/edit.expected
 
 bindings=$root/target/bindings
 one_test "the Rust example is built" in_folder bindings/rust \
@@ -243,19 +255,23 @@ fi
 counted "the library against the brute force" limited 1200 "$built/release/compare-library"
 counted "the library against the brute force, typed texts" \
     limited 1200 "$built/release/compare-library" --texts 1
+counted "the library's reader against the second one" limited 1200 "$built/release/compare-reader"
+counted "the library's reader against the second one, typed texts" \
+    limited 1200 "$built/release/compare-reader" --texts 1
 counted "the library's writer against the second one" limited 1200 "$built/release/compare-writer"
 # The runs that end in 9 take the brute force too long.
 if [ -x "$plan" ]; then
     counted "plan against the brute force" \
         limited 1200 "$built/release/compare-program" "$plan" examples/*.sheet tests/runs/[0-8]*.sheet
-else
-    fail "plan was not compared, as there is no target/bin/plan"
 fi
 if [ -x "$typed" ]; then
     counted "typed against the brute force" limited 1200 "$built/release/compare-program" "$typed" \
         examples/*.text tests/runs/typed-*.text --texts 1
-else
-    fail "typed was not compared, as there is no target/bin/typed"
+fi
+if [ -x "$as_sheet" ]; then
+    counted "as_sheet against the second reader and writer" \
+        limited 1200 "$built/release/compare-program" "$as_sheet" examples/*.text tests/runs/*.text \
+        --as-sheet 1
 fi
 
 finish

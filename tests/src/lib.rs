@@ -1,7 +1,9 @@
-//! What the comparisons rest on: a reader and a planner written apart from the proved ones, and
-//! generators of sheets.
+//! What the comparisons rest on: readers, a planner and a writer written apart from the proved ones,
+//! and generators of sheets, texts and tables.
 
 pub mod brute;
+#[cfg(feature = "library")]
+mod convert;
 pub mod effort;
 pub mod form;
 pub mod generate;
@@ -10,7 +12,10 @@ pub mod options;
 pub mod oracle;
 pub mod planning;
 pub mod process;
+pub mod reading;
+pub mod tables;
 pub mod typed;
+pub mod workers;
 pub mod writing;
 
 /// The sample sheet of docs/FORMAT.md.

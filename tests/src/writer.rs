@@ -13,15 +13,16 @@ use std::hint::black_box;
 use std::process::ExitCode;
 use std::time::{Duration, Instant};
 
-use comzsered::figures;
-use planner_tests::brute::{BAD_PLAN, NO_PLAN, NO_ROOM};
+use comzsered::figures::{self, Words};
+use planner_tests::brute::{NO_PLAN, NO_ROOM};
 use planner_tests::generate::Random;
 use planner_tests::options::{ended, misused, Options};
 use planner_tests::oracle::{self, BAD_FIELD, BAD_SIZE, MAX_BYTES, TOO_MANY};
 use planner_tests::planning::light;
-use planner_tests::writing::check::{with_more_behind, Trial, GUARD};
+use planner_tests::tables::Tables;
+use planner_tests::writing::check::{Trial, GUARD};
 use planner_tests::writing::generate::{kinds, made_tables, Made};
-use planner_tests::writing::{cases, put, sheet, Tables, Written, TOO_SHORT};
+use planner_tests::writing::{cases, put, sheet, Written, TOO_SHORT};
 
 /// Tables and seconds at most, unless the options say otherwise.
 const TABLES: u64 = 80_000;
@@ -82,32 +83,6 @@ impl Total {
     }
 }
 
-/// The library's writer, in the second writer's own type. The columns end before what stands behind
-/// them in memory.
-fn written(tables: &Tables, behind: &Tables, out: &mut [u8]) -> Written {
-    let lent = comzsered::Tables {
-        switches: tables.switches,
-        faults: tables.faults,
-        gates: tables.gates,
-        rules: tables.rules,
-        wishes: tables.wishes,
-        kind: &behind.kind[..tables.kind.len()],
-        left: &behind.left[..tables.left.len()],
-        right: &behind.right[..tables.right.len()],
-        rule: &behind.rule[..tables.rule.len()],
-        first: &behind.first[..tables.first.len()],
-        second: &behind.second[..tables.second.len()],
-        third: &behind.third[..tables.third.len()],
-    };
-    let got = figures::write(&lent, out);
-    Written {
-        number: got.number,
-        place: got.place,
-        column: got.column,
-        length: got.length,
-    }
-}
-
 // ---- tables with outcomes worked out by hand
 
 fn by_hand(total: &mut Total) {
@@ -118,10 +93,10 @@ fn by_hand(total: &mut Total) {
             case.written(),
             [&guard[..], &case.buffer(FILLING), &guard].concat(),
         );
-        let behind = with_more_behind(&case.tables);
+        let words = Words::from(&case.tables);
         let second = lent(&expected.1, FILLING, |out| put(&sheet(&case.tables), out));
         let library = lent(&expected.1, FILLING, |out| {
-            written(&case.tables, &behind, out)
+            figures::write(&words, out).into()
         });
         let trouble = [("the second writer", second), ("the library", library)]
             .iter()
@@ -195,19 +170,18 @@ fn try_tables(seed: u64, index: u64, total: &mut Total) {
     let made = made_tables(seed, index);
     // Not the numbers that the tables were made from.
     let trial = Trial::new(&mut Random::new(!seed, index), &made.tables);
-    let behind = with_more_behind(&made.tables);
-    let before = behind.clone();
+    let words = Words::from(&made.tables);
     let numbers = &mut total.numbers;
     let mut trouble = trial.differs(&mut |out| {
-        let got = written(&made.tables, &behind, out);
+        let got = figures::write(&words, out);
         *numbers.entry(got.number).or_default() += 1;
-        got
+        got.into()
     });
-    if trouble.is_none() && *black_box(&behind) != before {
-        trouble = Some("the tables, or what stands behind them, were changed".into());
+    if trouble.is_none() && Tables::from(black_box(&words)) != made.tables {
+        trouble = Some("the tables were changed".into());
     }
     if trouble.is_none() {
-        trouble = round_trip(&made, &behind, total);
+        trouble = round_trip(&made, &words, total);
     }
     *total.recipes.entry(made.kind).or_default() += 1;
     let outcome = match &trial.outcome {
@@ -219,11 +193,10 @@ fn try_tables(seed: u64, index: u64, total: &mut Total) {
 }
 
 /// Both ways round, by what the library wrote: it is the sheet that the tables were read from, if
-/// there is one; the second reader makes the tables of it, up to their counts; and the library's own
-/// reader accepts it.
-fn round_trip(made: &Made, behind: &Tables, total: &mut Total) -> Option<String> {
+/// there is one; and the second reader and the library's own make the tables of it, up to their counts.
+fn round_trip(made: &Made, words: &Words, total: &mut Total) -> Option<String> {
     let mut out = vec![0; MAX_BYTES];
-    let got = written(&made.tables, behind, &mut out);
+    let got = figures::write(words, &mut out);
     let bytes = &out[..got.length.min(MAX_BYTES)];
     if let Some(sheet) = &made.sheet {
         if bytes != sheet {
@@ -241,10 +214,12 @@ fn round_trip(made: &Made, behind: &Tables, total: &mut Total) -> Option<String>
     if read.as_ref() != Ok(&said) {
         return Some(format!("what was written is read as {read:?}"));
     }
-    // The last refusal of Rating: it is told only if the sheet is accepted.
-    let rated = figures::rating(bytes, u32::MAX);
-    if rated.number != BAD_PLAN {
-        return Some(format!("a rating of what was written: {rated:?}"));
+    let mut again = words.clone();
+    let read = figures::read(bytes, &mut again);
+    if read.number != 0 || Tables::from(&again) != Tables::of(&said) {
+        return Some(format!(
+            "the library reads what it wrote as {again:?}: {read:?}"
+        ));
     }
     if light(&said) && said.switches + said.faults <= ANSWERED {
         total.answered += 1;

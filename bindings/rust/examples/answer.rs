@@ -8,7 +8,7 @@
 
 use std::process::ExitCode;
 
-use comzsered::{answer, Answer, Input, Pattern, Plan, LIST_MAX};
+use comzsered::{answer, read, Answer, Input, Pattern, Plan, LIST_MAX};
 
 /// One of two switches or two faults must be true, and both switches are wished to be off.
 const BUILT_IN: &[u8] = b"\
@@ -43,6 +43,13 @@ fn main() -> ExitCode {
     } else {
         Input::Sheet(&bytes)
     };
+    let tables = match read(input) {
+        Ok(tables) => tables,
+        Err(refusal) => {
+            println!("Refused: {refusal}");
+            return ExitCode::from(1);
+        }
+    };
     let mut list = vec![0; LIST_MAX];
     let patterns = match answer(input, &mut list) {
         Answer::Plan {
@@ -50,7 +57,7 @@ fn main() -> ExitCode {
             cost,
             patterns,
         } => {
-            print_plan(input, plan, cost);
+            print_plan(plan, cost, tables.switches);
             patterns
         }
         Answer::NoPlan { patterns } => {
@@ -58,48 +65,25 @@ fn main() -> ExitCode {
             patterns
         }
         Answer::NoRoom { .. } => unreachable!("there is room for any list"),
-        Answer::Refused(refusal) => {
-            println!("Refused: {refusal}");
-            return ExitCode::from(1);
-        }
+        Answer::Refused(refusal) => unreachable!("it was read: {refusal}"),
     };
     println!("Listed patterns: {patterns}");
     for &word in &list[..patterns] {
-        print_pattern(input, Pattern(word));
+        print_pattern(Pattern(word), tables.faults);
     }
     ExitCode::SUCCESS
 }
 
-/// The switches and faults of an accepted input: numbers of a sheet's first line, or those on the
-/// first two lines of a text.
-fn counts(input: Input) -> [u32; 2] {
-    match input {
-        Input::Sheet(sheet) => [&sheet[1..6], &sheet[6..11]].map(number),
-        Input::Text(text) => {
-            let mut words = text.split(|byte| byte.is_ascii_whitespace());
-            // A count is the word after its keyword.
-            [(); 2].map(|()| number(words.nth(1).expect("a count")))
-        }
-    }
-}
-
-fn number(bytes: &[u8]) -> u32 {
-    let text = String::from_utf8_lossy(bytes);
-    text.trim().parse().expect("a number")
-}
-
-fn print_plan(input: Input, plan: Plan, cost: u32) {
+fn print_plan(plan: Plan, cost: u32, switches: u32) {
     println!("Plan {}, broken wishes: {cost}", plan.0);
-    let [switches, _] = counts(input);
     for k in 1..=switches {
         let state = if plan.is_on(k, switches) { "on" } else { "off" };
         println!("  switch {k}: {state}");
     }
 }
 
-fn print_pattern(input: Input, pattern: Pattern) {
+fn print_pattern(pattern: Pattern, faults: u32) {
     print!("  pattern {}:", pattern.0);
-    let [_, faults] = counts(input);
     if pattern == Pattern(0) {
         print!(" no fault");
     }

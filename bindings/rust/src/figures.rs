@@ -4,7 +4,7 @@
 //! figure, as tests do. `include/comzsered.h` describes them in full. A figure that an outcome does
 //! not name is 0.
 
-use crate::{Input, Tables};
+use crate::{Input, GATES_MAX, LITERALS_MAX, RULES_MAX, WISHES_MAX};
 
 /// The figures of Answer and Short run.
 #[derive(Clone, Copy, Debug, PartialEq, Eq)]
@@ -27,6 +27,47 @@ pub struct Rated {
     pub sound: u32,
     pub pattern: u32,
     pub length: usize,
+}
+
+/// Tables as the archive takes and gives them: the words of `comzsered_tables`.
+#[derive(Clone, Debug, PartialEq, Eq)]
+#[repr(C)]
+pub struct Words {
+    pub switches: u32,
+    pub faults: u32,
+    pub gates: u32,
+    pub rules: u32,
+    pub wishes: u32,
+    /// A gate's letter, first point and second point.
+    pub gate: [[u32; 3]; GATES_MAX],
+    pub rule: [u32; RULES_MAX],
+    /// Literals, k as 2k and -k as 2k + 1, then zeros.
+    pub wish: [[u32; LITERALS_MAX]; WISHES_MAX],
+}
+
+/// As the header has it.
+const _: () = assert!(size_of::<Words>() == 1_461 * size_of::<u32>());
+
+impl Words {
+    /// No switch, fault, gate, rule or wish.
+    pub const EMPTY: Words = Words {
+        switches: 0,
+        faults: 0,
+        gates: 0,
+        rules: 0,
+        wishes: 0,
+        gate: [[0; 3]; GATES_MAX],
+        rule: [0; RULES_MAX],
+        wish: [[0; LITERALS_MAX]; WISHES_MAX],
+    };
+}
+
+/// The figures of reading.
+#[derive(Clone, Copy, Debug, PartialEq, Eq)]
+pub struct Read {
+    pub number: u32,
+    pub place: usize,
+    pub column: usize,
 }
 
 /// The figures of writing.
@@ -56,6 +97,11 @@ const NOT_RATED: Rated = Rated {
     pattern: u32::MAX,
     length: usize::MAX,
 };
+const NOT_READ: Read = Read {
+    number: u32::MAX,
+    place: usize::MAX,
+    column: usize::MAX,
+};
 const NOT_WRITTEN: Written = Written {
     number: u32::MAX,
     place: usize::MAX,
@@ -64,8 +110,9 @@ const NOT_WRITTEN: Written = Written {
 };
 
 /// The calls of the archive: each job has one for a sheet and one for a typed text, with the same
-/// arguments. Writing takes neither, so its call stands alone.
+/// arguments. Writing takes tables, so its call stands alone.
 mod archive {
+    use super::Words;
     use crate::Input;
 
     macro_rules! calls {
@@ -100,29 +147,12 @@ mod archive {
         rating: comzsered_rating, comzsered_text_rating,
             (u32, *mut usize, *mut usize, *mut u32, *mut u32, *mut u32, *mut usize) -> u32;
         listing: comzsered_listing, comzsered_text_listing, (*mut u8, usize) -> usize;
+        read: comzsered_read, comzsered_text_read, (*mut Words, *mut usize, *mut usize) -> u32;
     }
 
     extern "C" {
         pub fn comzsered_write(
-            switches: u32,
-            faults: u32,
-            gates: u32,
-            rules: u32,
-            wishes: u32,
-            kind: *const u8,
-            kind_len: usize,
-            left: *const u32,
-            left_len: usize,
-            right: *const u32,
-            right_len: usize,
-            rule: *const u32,
-            rule_len: usize,
-            first: *const u32,
-            first_len: usize,
-            second: *const u32,
-            second_len: usize,
-            third: *const u32,
-            third_len: usize,
+            tables: *const Words,
             out: *mut u8,
             out_len: usize,
             place: *mut usize,
@@ -132,7 +162,7 @@ mod archive {
     }
 }
 
-// In all calls: the pointers of a slice are never null, also of an empty one; a `&mut` slice
+// In all calls: the pointers of a slice are never null, also of an empty one; what is lent as `&mut`
 // overlaps nothing else; and the figures are different fields of one value of ours.
 
 /// Answer. Afterwards the first `length` words of `list` are the list, and the others are as they
@@ -207,32 +237,32 @@ pub fn listing<'a>(input: impl Into<Input<'a>>, out: &mut [u8]) -> usize {
     unsafe { call(bytes.as_ptr(), bytes.len(), out.as_mut_ptr(), out.len()) }
 }
 
+/// Reading of the sheet or text. After number 0 these are its tables, with zeros beyond the counts;
+/// after any other number they are as they were.
+pub fn read<'a>(input: impl Into<Input<'a>>, tables: &mut Words) -> Read {
+    let (bytes, call) = archive::read(input.into());
+    let mut read = NOT_READ;
+    // SAFETY: as above; and the archive has tables as `Words` has them.
+    read.number = unsafe {
+        call(
+            bytes.as_ptr(),
+            bytes.len(),
+            tables,
+            &mut read.place,
+            &mut read.column,
+        )
+    };
+    read
+}
+
 /// Writing of these tables. After number 0 the sheet stands in the first `length` bytes of `out`, and
 /// the others are as they were; after any other number all of them are.
-pub fn write(tables: &Tables, out: &mut [u8]) -> Written {
+pub fn write(tables: &Words, out: &mut [u8]) -> Written {
     let mut written = NOT_WRITTEN;
     // SAFETY: as above.
     written.number = unsafe {
         archive::comzsered_write(
-            tables.switches,
-            tables.faults,
-            tables.gates,
-            tables.rules,
-            tables.wishes,
-            tables.kind.as_ptr(),
-            tables.kind.len(),
-            tables.left.as_ptr(),
-            tables.left.len(),
-            tables.right.as_ptr(),
-            tables.right.len(),
-            tables.rule.as_ptr(),
-            tables.rule.len(),
-            tables.first.as_ptr(),
-            tables.first.len(),
-            tables.second.as_ptr(),
-            tables.second.len(),
-            tables.third.as_ptr(),
-            tables.third.len(),
+            tables,
             out.as_mut_ptr(),
             out.len(),
             &mut written.place,

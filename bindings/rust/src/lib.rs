@@ -3,9 +3,9 @@
 //! A planning sheet tells of switches that are set once, faults that may then occur in any
 //! combination, rules that must hold whatever the faults are, and wishes about the switches. The
 //! planner finds the plan, a setting of all switches, that keeps every rule under every pattern of
-//! faults and breaks as few wishes as possible. The same can be typed as a text, and a sheet can be
-//! written from tables. The repository's `docs/FORMAT.md` describes sheets, texts, tables and every
-//! rule in full.
+//! faults and breaks as few wishes as possible. The same can be typed as a text. What either says can
+//! be read into tables, which a program can edit, and tables can be written as a sheet. The
+//! repository's `docs/FORMAT.md` describes sheets, texts, tables and every rule in full.
 //!
 //! | Job | Function | Gives |
 //! |---|---|---|
@@ -13,6 +13,7 @@
 //! | Short run | [`short_run`] | the best plan that passes some given patterns |
 //! | Rating | [`rating`] | the cost of a plan, and whether it passes every pattern |
 //! | Listing | [`listing`] | the answer in lines of text, as the programs `plan` and `typed` print it |
+//! | Reading | [`read`] | what the sheet or text says, as [`Tables`] |
 //! | Writing | [`write`] | the sheet of some [`Tables`] |
 //!
 //! In this sheet one of two switches or two faults must be true, and both switches are wished to be
@@ -68,8 +69,10 @@
 use std::fmt;
 
 pub mod figures;
+mod tables;
 
-use figures::{Found, Rated, Written};
+use figures::{Found, Rated, Words};
+pub use tables::{Gate, Literal, Point, Tables, Wish};
 
 /// What the jobs are done for: a planning sheet, or a typed text that stands for one.
 #[derive(Clone, Copy, Debug, PartialEq, Eq)]
@@ -85,6 +88,12 @@ impl<'a, T: AsRef<[u8]> + ?Sized> From<&'a T> for Input<'a> {
     }
 }
 
+/// The gates, rules and wishes of a sheet at most.
+pub const GATES_MAX: usize = 400;
+pub const RULES_MAX: usize = 64;
+pub const WISHES_MAX: usize = 64;
+/// The literals of a wish at most.
+pub const LITERALS_MAX: usize = 3;
 /// The bytes of the longest sheet. With so many, no writing ends in refusal 13.
 pub const SHEET_MAX: usize = 9_010;
 /// The bytes of the longest typed text.
@@ -131,49 +140,6 @@ fn digit(number: u32, k: u32, digits: u32) -> bool {
     number >> (digits - k) & 1 == 1
 }
 
-/// What a sheet says, as [`write`] takes it: how many switches, faults, gates, rules and wishes there
-/// are, and a slice for each word of a gate, a rule or a wish.
-///
-/// | Slices | Entry i, from 0, is |
-/// |---|---|
-/// | `kind`, `left`, `right` | gate i + 1: its letter `N`, `A` or `O`, its first point, and its second, which is 0 for `N` |
-/// | `rule` | rule i + 1: its point |
-/// | `first`, `second`, `third` | wish i + 1: up to three literals as [`literal`] has them, then zeros |
-///
-/// A slice may be longer than its count: what stands after the counted entries is not looked at.
-#[derive(Clone, Copy, Debug, Default, PartialEq, Eq)]
-pub struct Tables<'a> {
-    pub switches: u32,
-    pub faults: u32,
-    pub gates: u32,
-    pub rules: u32,
-    pub wishes: u32,
-    pub kind: &'a [u8],
-    pub left: &'a [u32],
-    pub right: &'a [u32],
-    pub rule: &'a [u32],
-    pub first: &'a [u32],
-    pub second: &'a [u32],
-    pub third: &'a [u32],
-}
-
-/// The word of a literal in [`Tables`]: 2k for switch k on, 2k + 1 for switch k off. Where a wish has
-/// no literal the word is 0.
-///
-/// ```
-/// use comzsered::literal;
-///
-/// assert_eq!([literal(3, true), literal(3, false)], [6, 7]);
-/// ```
-///
-/// # Panics
-///
-/// If the switch is 0 or its word does not fit into 32 bits.
-pub const fn literal(switch: u32, on: bool) -> u32 {
-    assert!(1 <= switch && switch <= u32::MAX / 2);
-    2 * switch + !on as u32
-}
-
 /// Why a sheet, a text, tables or a call is turned down: the number of the refusal, and where its cause is.
 ///
 /// ```
@@ -216,8 +182,8 @@ pub const fn literal(switch: u32, on: bool) -> u32 {
 /// assert_eq!(refusal.to_string(), "byte 20: no legal text goes on like this");
 /// ```
 ///
-/// Of tables, 4, 5 and 6 tell the line on which the entry would stand on the sheet, and 13 is for
-/// them alone: see [`write`].
+/// Of tables, 4, 5 and 6 tell the line on which the entry would stand on the sheet: see [`write`].
+/// Number 13 comes from [`figures::write`] alone.
 #[derive(Clone, Copy, Debug, PartialEq, Eq, Hash)]
 pub struct Refusal {
     pub number: u32,
@@ -266,6 +232,14 @@ impl fmt::Display for Refusal {
 }
 
 impl std::error::Error for Refusal {}
+
+const fn refusal(number: u32, place: usize, column: usize) -> Refusal {
+    Refusal {
+        number,
+        place,
+        column,
+    }
+}
 
 /// What [`answer`] gives. `patterns` is the number of words at the list's beginning that hold the
 /// patterns listed; the other words are as they were.
@@ -319,11 +293,7 @@ impl From<Found> for Answer {
             },
             8 => Answer::NoPlan { patterns },
             9 => Answer::NoRoom { patterns },
-            number => Answer::Refused(Refusal {
-                number,
-                place: found.place,
-                column: found.column,
-            }),
+            number => Answer::Refused(refusal(number, found.place, found.column)),
         }
     }
 }
@@ -336,11 +306,7 @@ impl From<Found> for ShortRun {
                 cost: found.cost,
             },
             8 => ShortRun::NoPlan,
-            number => ShortRun::Refused(Refusal {
-                number,
-                place: found.place,
-                column: found.column,
-            }),
+            number => ShortRun::Refused(refusal(number, found.place, found.column)),
         }
     }
 }
@@ -354,24 +320,7 @@ impl From<Rated> for Rating {
                 pattern: Pattern(rated.pattern),
             },
             (0, _) => Rating::Sound { cost },
-            (number, _) => Rating::Refused(Refusal {
-                number,
-                place: rated.place,
-                column: rated.column,
-            }),
-        }
-    }
-}
-
-impl From<Written> for Result<usize, Refusal> {
-    fn from(written: Written) -> Result<usize, Refusal> {
-        match written.number {
-            0 => Ok(written.length),
-            number => Err(Refusal {
-                number,
-                place: written.place,
-                column: written.column,
-            }),
+            (number, _) => Rating::Refused(refusal(number, rated.place, rated.column)),
         }
     }
 }
@@ -435,56 +384,64 @@ pub fn listing<'a>(input: impl Into<Input<'a>>) -> Vec<u8> {
     out
 }
 
-/// Writes the sheet of these tables into the beginning of `out`, and returns its length. The bytes
-/// after it are as they were, and on a refusal all of them are.
-///
-/// The tables are tested as a sheet's lines are, the line of an entry being that on which it would
-/// stand. A sheet that was written is accepted, and reading it gives the tables again, up to their
-/// counts; the tables of an accepted sheet are written as that sheet.
+/// What a sheet or a text says.
 ///
 /// ```
-/// use comzsered::{answer, literal, write, Answer, Plan, Tables, SHEET_MAX};
+/// use comzsered::{read, Gate, Input, Literal, Point, Wish};
+///
+/// let text = Input::Text(b"switches 2\nfaults 1\nrule s1 | !f1\nwish !s1 s2\n");
+/// let tables = read(text).unwrap();
+/// assert_eq!((tables.switches, tables.faults), (2, 1));
+/// assert_eq!(tables.gates, [Gate::Not(Point(3)), Gate::Or(Point(1), Point(4))]);
+/// assert_eq!(tables.rules, [Point(5)]);
+/// assert_eq!(tables.wishes, [Wish::from([Literal::off(1), Literal::on(2)])]);
+/// ```
+pub fn read<'a>(input: impl Into<Input<'a>>) -> Result<Tables, Refusal> {
+    let mut words = Words::EMPTY;
+    let read = figures::read(input, &mut words);
+    match read.number {
+        0 => Ok(Tables::of(&words)),
+        number => Err(refusal(number, read.place, read.column)),
+    }
+}
+
+/// The sheet of these tables.
+///
+/// The tables are tested as a sheet's lines are, the line of an entry being that on which it would
+/// stand. A sheet that was written is accepted, and reading it gives the tables again; what was read
+/// from a sheet is written as that sheet.
+///
+/// ```
+/// use comzsered::{answer, read, write, Answer, Input, Literal, Plan, Point, Wish};
 ///
 /// // One of two switches must be on, and both are wished to be off.
-/// let mut tables = Tables {
-///     switches: 2,
-///     gates: 1,
-///     rules: 1,
-///     wishes: 2,
-///     kind: b"O",
-///     left: &[1],
-///     right: &[2],
-///     rule: &[3],
-///     first: &[literal(1, false), literal(2, false)],
-///     second: &[0, 0],
-///     third: &[0, 0],
-///     ..Tables::default()
-/// };
-/// let mut out = [0; SHEET_MAX];
-/// let length = write(&tables, &mut out).unwrap();
-/// let sheet = b"\
+/// let text = Input::Text(b"switches 2\nfaults 0\nrule s1|s2\nwish !s1\n");
+/// let mut tables = read(text).unwrap();
+/// tables.wishes.push(Wish::from([Literal::off(2)]));
+/// let sheet = write(&tables).unwrap();
+/// assert_eq!(sheet, b"\
 /// H    2    0    0\n\
 /// O    1    2    0\n\
 /// R    3    0    0\n\
 /// W   -1    0    0\n\
 /// W   -2    0    0\n\
-/// Z    5    0    0\n";
-/// assert_eq!(out[..length], sheet[..]);
+/// Z    5    0    0\n");
 /// let plan = Answer::Plan { plan: Plan(1), cost: 1, patterns: 1 };
-/// assert_eq!(answer(&out[..length], &mut [0; 1]), plan);
-///
-/// // One byte too little room.
-/// let refusal = write(&tables, &mut out[..length - 1]).unwrap_err();
-/// assert_eq!((refusal.number, refusal.place), (13, 0));
-/// assert_eq!(refusal.to_string(), "the sheet is longer than the room lent for it");
+/// assert_eq!(answer(&sheet, &mut [0; 1]), plan);
 ///
 /// // Point 4 is not on the sheet, and the rule would stand on line 3.
-/// tables.rule = &[4];
-/// let refusal = write(&tables, &mut out).unwrap_err();
+/// tables.rules[0] = Point(4);
+/// let refusal = write(&tables).unwrap_err();
 /// assert_eq!((refusal.number, refusal.place), (6, 3));
 /// ```
-pub fn write(tables: &Tables, out: &mut [u8]) -> Result<usize, Refusal> {
-    figures::write(tables, out).into()
+pub fn write(tables: &Tables) -> Result<Vec<u8>, Refusal> {
+    let mut out = vec![0; SHEET_MAX];
+    let written = figures::write(&tables.words(), &mut out);
+    out.truncate(written.length);
+    match written.number {
+        0 => Ok(out),
+        number => Err(refusal(number, written.place, written.column)),
+    }
 }
 
 #[cfg(test)]
@@ -492,7 +449,7 @@ mod tests {
     use super::*;
 
     /// A sheet written short, as "H 1 0; Z 1": numbers left out are 0.
-    fn sheet(short: &str) -> Vec<u8> {
+    pub fn sheet(short: &str) -> Vec<u8> {
         let mut bytes = Vec::new();
         for line in short.split(';') {
             let mut words = line.split_whitespace();
@@ -505,20 +462,15 @@ mod tests {
         bytes
     }
 
-    const SAMPLE: &str = "H 2 2; O 1 2; O 3 4; O 5 6; R 7; W -1; W -2; Z 7";
+    pub const SAMPLE: &str = "H 2 2; O 1 2; O 3 4; O 5 6; R 7; W -1; W -2; Z 7";
+    /// The same typed.
+    pub const TEXT: Input =
+        Input::Text(b"switches 2\nfaults 2\nrule (s1|s2)|(f1|f2)\nwish !s1\nwish !s2\n");
     const FOLLOWER: &str = "H 1 1; N 1; N 2; A 1 2; A 3 4; O 5 6; R 7; Z 7";
 
-    fn refused(number: u32, place: usize) -> Refusal {
-        refused_at(number, place, 0)
-    }
-
-    /// With a column, which the library tells after number 2 only.
-    fn refused_at(number: u32, place: usize, column: usize) -> Refusal {
-        Refusal {
-            number,
-            place,
-            column,
-        }
+    /// Without a column, which the library tells after number 2 only.
+    pub fn refused(number: u32, place: usize) -> Refusal {
+        refusal(number, place, 0)
     }
 
     /// The second line has a minus without a digit.
@@ -550,7 +502,7 @@ mod tests {
         assert_eq!(answer(b"", &mut list), wrong);
         let wrong = Answer::Refused(refused(7, 2));
         assert_eq!(answer(&sheet("H; Z 2"), &mut list), wrong);
-        let wrong = Answer::Refused(refused_at(2, 2, 11));
+        let wrong = Answer::Refused(refusal(2, 2, 11));
         assert_eq!(answer(MALFORMED, &mut list), wrong);
         assert_eq!(list, [77; 4]);
     }
@@ -558,18 +510,17 @@ mod tests {
     /// A text is answered as the sheet that it stands for, in every job.
     #[test]
     fn texts() {
-        let text = Input::Text(b"switches 2\nfaults 2\nrule (s1|s2)|(f1|f2)\nwish !s1\nwish !s2\n");
         let sheet = sheet(SAMPLE);
         let (mut of_text, mut of_sheet) = ([77; 4], [77; 4]);
-        assert_eq!(answer(text, &mut of_text), answer(&sheet, &mut of_sheet));
+        assert_eq!(answer(TEXT, &mut of_text), answer(&sheet, &mut of_sheet));
         assert_eq!(of_text, of_sheet);
         for patterns in [&[][..], &[0, 3], &[3, 4]] {
-            assert_eq!(short_run(text, patterns), short_run(&sheet, patterns));
+            assert_eq!(short_run(TEXT, patterns), short_run(&sheet, patterns));
         }
         for plan in [0, 3, 4].map(Plan) {
-            assert_eq!(rating(text, plan), rating(&sheet, plan));
+            assert_eq!(rating(TEXT, plan), rating(&sheet, plan));
         }
-        assert_eq!(listing(text), listing(&sheet));
+        assert_eq!(listing(TEXT), listing(&sheet));
     }
 
     #[test]
@@ -620,7 +571,7 @@ mod tests {
         );
         assert_eq!(
             short_run(MALFORMED, &[9]),
-            ShortRun::Refused(refused_at(2, 2, 11))
+            ShortRun::Refused(refusal(2, 2, 11))
         );
     }
 
@@ -640,7 +591,7 @@ mod tests {
         );
         assert_eq!(
             rating(MALFORMED, Plan(9)),
-            Rating::Refused(refused_at(2, 2, 11))
+            Rating::Refused(refusal(2, 2, 11))
         );
     }
 
@@ -676,7 +627,7 @@ Z    6    0    0
                 length: 8,
             };
             let (plan, cost, patterns) = (Plan(6), 7, 8);
-            let refusal = refused_at(number, 5, 9);
+            let refusal = refusal(number, 5, 9);
             let (answer, short_run) = match number {
                 0 => (
                     Answer::Plan {
@@ -716,7 +667,7 @@ Z    6    0    0
                     },
                 ),
                 _ => {
-                    let refusal = Rating::Refused(refused_at(number, 5, 9));
+                    let refusal = Rating::Refused(refusal(number, 5, 9));
                     (refusal, refusal)
                 }
             };
@@ -732,7 +683,7 @@ Z    6    0    0
             said(1, 0),
             "the sheet's length is 0, above 9,010 or no multiple of 17"
         );
-        let column = refused_at(2, 7, 12).to_string();
+        let column = refusal(2, 7, 12).to_string();
         assert!(column.starts_with("line 7, column 12: "), "{column}");
         for number in 3..=7 {
             assert!(said(number, 12).starts_with("line 12: "), "{number}");
@@ -747,95 +698,67 @@ Z    6    0    0
         assert_eq!(all.len(), 14);
     }
 
-    /// The tables of [`SAMPLE`], with words after the counted ones.
-    const TABLES: Tables = Tables {
-        switches: 2,
-        faults: 2,
-        gates: 3,
-        rules: 1,
-        wishes: 2,
-        kind: b"OOO?",
-        left: &[1, 3, 5, 77],
-        right: &[2, 4, 6],
-        rule: &[7, 0],
-        first: &[literal(1, false), literal(2, false), 1],
-        second: &[0, 0],
-        third: &[0, 0, 4],
-    };
+    /// The words of [`SAMPLE`].
+    fn words() -> Words {
+        let mut words = Words {
+            switches: 2,
+            faults: 2,
+            gates: 3,
+            rules: 1,
+            wishes: 2,
+            ..Words::EMPTY
+        };
+        words.gate[..3].copy_from_slice(&[[79, 1, 2], [79, 3, 4], [79, 5, 6]]);
+        words.rule[0] = 7;
+        words.wish[..2].copy_from_slice(&[[3, 0, 0], [5, 0, 0]]);
+        words
+    }
 
+    /// Reading fills every word, and after a refusal none.
     #[test]
-    fn tables() {
+    fn words_read() {
+        let any = Words {
+            switches: 77,
+            gate: [[77; 3]; GATES_MAX],
+            wish: [[77; LITERALS_MAX]; WISHES_MAX],
+            ..Words::EMPTY
+        };
+        let sheet = sheet(SAMPLE);
+        for input in [Input::Sheet(&sheet), TEXT] {
+            let mut tables = any.clone();
+            figures::read(input, &mut tables);
+            assert_eq!(tables, words());
+        }
+        for input in [Input::Sheet(MALFORMED), Input::Text(MALFORMED)] {
+            let mut tables = any.clone();
+            let read = figures::read(input, &mut tables);
+            assert_ne!(read.number, 0);
+            assert_eq!(tables, any);
+        }
+    }
+
+    /// What stands beyond the counts is not looked at, and nothing is written beyond the sheet, or
+    /// without room for it.
+    #[test]
+    fn words_written() {
+        let mut words = words();
+        words.gate[3] = [0, 77, 77];
+        words.rule[1] = 99;
+        words.wish[2] = [0, 1, 1];
         let sheet = sheet(SAMPLE);
         let need = sheet.len();
-        let mut out = vec![77; need + 4];
-        assert_eq!(write(&TABLES, &mut out), Ok(need));
-        assert_eq!(out[..need], sheet);
-        assert_eq!(out[need..], [77; 4]);
-        out.fill(77);
-        assert_eq!(write(&TABLES, &mut out[..need]), Ok(need));
-        assert_eq!(out[..need], sheet);
-    }
-
-    #[test]
-    fn refused_tables() {
-        let mut out = [77; SHEET_MAX];
-        // The sizes, a word of each kind, each slice too short for its count, a limit passed.
-        #[rustfmt::skip]
-        let cases = [
-            (Tables { switches: 21, ..TABLES }, 4, 1),
-            (Tables { faults: 17, ..TABLES }, 4, 1),
-            (Tables { kind: b"OOo", ..TABLES }, 6, 4),
-            (Tables { kind: b"ON", ..TABLES }, 6, 3),
-            (Tables { kind: b"OO", ..TABLES }, 6, 4),
-            (Tables { left: &[1, 3], ..TABLES }, 6, 4),
-            (Tables { right: &[], ..TABLES }, 6, 2),
-            (Tables { right: &[2, 4, 7], ..TABLES }, 6, 4),
-            (Tables { rules: u32::MAX, rule: &[7; 65], ..TABLES }, 5, 69),
-            (Tables { rule: &[8], ..TABLES }, 6, 5),
-            (Tables { rule: &[], ..TABLES }, 6, 5),
-            (Tables { first: &[1, 2], ..TABLES }, 6, 6),
-            (Tables { first: &[2], ..TABLES }, 6, 7),
-            (Tables { second: &[0, 6], ..TABLES }, 6, 7),
-            (Tables { second: &[0], ..TABLES }, 6, 7),
-            (Tables { third: &[0, 2], ..TABLES }, 6, 7),
-            (Tables { third: &[], ..TABLES }, 6, 6),
-        ];
-        for (tables, number, place) in cases {
-            let refusal = Err(refused(number, place));
-            assert_eq!(write(&tables, &mut out), refusal, "{tables:?}");
-            // Want of room is told last.
-            assert_eq!(write(&tables, &mut []), refusal, "{tables:?}");
+        for room in [need, need + 4] {
+            let mut out = vec![77; room];
+            let written = figures::write(&words, &mut out);
+            assert_eq!((written.number, written.length), (0, need));
+            assert_eq!(out, [&sheet, &vec![77; room - need][..]].concat());
         }
-        let need = sheet(SAMPLE).len();
         for room in [0, 1, need - 1] {
-            assert_eq!(write(&TABLES, &mut out[..room]), Err(refused(13, 0)));
+            let mut out = vec![77; room];
+            let written = figures::write(&words, &mut out);
+            assert_eq!((written.number, written.place, written.length), (13, 0, 0));
+            assert_eq!(out, vec![77; room]);
         }
-        assert_eq!(out, [77; SHEET_MAX]);
-    }
-
-    /// Each number of writing becomes one case and loses no figure of it.
-    #[test]
-    fn every_number_of_writing() {
-        for number in 0..=14 {
-            let written = Written {
-                number,
-                place: 5,
-                column: 9,
-                length: 8,
-            };
-            let expected = match number {
-                0 => Ok(8),
-                _ => Err(refused_at(number, 5, 9)),
-            };
-            assert_eq!(<Result<usize, Refusal>>::from(written), expected);
-        }
-    }
-
-    #[test]
-    fn literals() {
-        assert_eq!([literal(1, true), literal(1, false)], [2, 3]);
-        assert_eq!(literal(u32::MAX / 2, false), u32::MAX);
-        assert!(std::panic::catch_unwind(|| literal(0, true)).is_err());
     }
 
     #[test]

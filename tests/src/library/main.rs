@@ -13,9 +13,7 @@ mod examples;
 mod tally;
 
 use std::process::ExitCode;
-use std::sync::atomic::{AtomicBool, AtomicU64, Ordering};
 use std::sync::Mutex;
-use std::thread;
 use std::time::{Duration, Instant};
 
 use check::Check;
@@ -23,6 +21,7 @@ use planner_tests::form::Form;
 use planner_tests::options::{ended, misused, Options};
 use planner_tests::oracle::LINE;
 use planner_tests::planning::{class, Class};
+use planner_tests::workers::work;
 use tally::Calls;
 
 /// Sheets, texts and seconds at most, unless the options say otherwise.
@@ -32,9 +31,6 @@ const SECONDS: u64 = 180;
 /// Fewer sheets than this, without options, are a failure: the machine or the library is too slow
 /// for the comparison to say much.
 const FEWEST: u64 = 20_000;
-const WORKERS: usize = 2;
-/// The stack of a worker: what a program's main thread usually has.
-const STACK: usize = 8 << 20;
 const STOP_AFTER: u64 = 20;
 /// The troubles of one sheet that are shown.
 const SHOWN: usize = 4;
@@ -143,43 +139,28 @@ fn try_sheets(form: Form, options: &Options, total: &mut Total) -> bool {
     let seconds = options.number("--seconds").unwrap_or(SECONDS);
     let trace = options.number("--trace").is_some();
     let end = Instant::now() + Duration::from_secs(seconds);
-    let next = AtomicU64::new(0);
-    let stopped = AtomicBool::new(false);
-    let shared = Mutex::new(total);
-    let work = || {
+    let shared = Mutex::new(&mut *total);
+    work(|job| {
+        if job >= count || Instant::now() >= end {
+            return false;
+        }
+        let seed = seeds[(job % seeds.len() as u64) as usize];
+        let index = job / seeds.len() as u64;
+        if trace {
+            println!("seed {seed}, index {index}");
+        }
         let mut calls = Calls::default();
-        loop {
-            let job = next.fetch_add(1, Ordering::Relaxed);
-            if job >= count || stopped.load(Ordering::Relaxed) || Instant::now() >= end {
-                break;
-            }
-            let seed = seeds[(job % seeds.len() as u64) as usize];
-            let index = job / seeds.len() as u64;
-            if trace {
-                println!("seed {seed}, index {index}");
-            }
-            let troubles = try_sheet(form, seed, index, &mut calls);
-            let mut total = shared.lock().expect("no worker panics");
-            total.add(troubles.is_empty());
-            if !troubles.is_empty() {
-                println!("FAIL: {}", described(form, seed, index));
-                println!("{}", troubles.join("\n"));
-                stopped.fetch_or(total.failed >= STOP_AFTER, Ordering::Relaxed);
-            }
+        let troubles = try_sheet(form, seed, index, &mut calls);
+        if !troubles.is_empty() {
+            println!("FAIL: {}", described(form, seed, index));
+            println!("{}", troubles.join("\n"));
         }
         let mut total = shared.lock().expect("no worker panics");
         total.calls.add(&calls);
-    };
-    let workers = thread::available_parallelism().map_or(1, |n| n.get());
-    thread::scope(|scope| {
-        for _ in 0..workers.min(WORKERS) {
-            thread::Builder::new()
-                .stack_size(STACK)
-                .spawn_scoped(scope, work)
-                .expect("a thread");
-        }
+        total.add(troubles.is_empty());
+        total.failed < STOP_AFTER
     });
-    let stopped = stopped.into_inner();
+    let stopped = total.failed >= STOP_AFTER;
     if stopped {
         println!("stopped after {STOP_AFTER} failures");
     }

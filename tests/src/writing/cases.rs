@@ -1,8 +1,9 @@
 //! Tables with their outcomes worked out by hand, for the second writer and the library alike.
 
-use super::{Tables, Written, TOO_SHORT};
+use super::{Written, TOO_SHORT};
 use crate::generate::sheet;
 use crate::oracle::{BAD_FIELD, BAD_SIZE, MAX_BYTES, MAX_GATES, MAX_RULES, MAX_WISHES, TOO_MANY};
+use crate::tables::Tables;
 
 pub struct Case {
     pub why: &'static str,
@@ -41,45 +42,48 @@ const BASE: &str = "H 2 1; N 3; A 1 4; O 5 2; R 6; R 1; W 1 -2 2; W -1; W; Z 9";
 /// Its length.
 const NEED: usize = 170;
 
+const N: u32 = b'N' as u32;
+const A: u32 = b'A' as u32;
+const O: u32 = b'O' as u32;
+
 /// Two switches (points 1, 2), one fault (3), the gates 4, 5, 6 on lines 2 to 4, two rules on lines 5
 /// and 6, three wishes on lines 7 to 9.
 fn base() -> Tables {
-    Tables {
+    let mut tables = Tables {
         switches: 2,
         faults: 1,
         gates: 3,
         rules: 2,
         wishes: 3,
-        kind: b"NAO".to_vec(),
-        left: vec![3, 1, 5],
-        right: vec![0, 4, 2],
-        rule: vec![6, 1],
-        first: vec![2, 3, 0],
-        second: vec![5, 0, 0],
-        third: vec![4, 0, 0],
-    }
+        ..Tables::default()
+    };
+    tables.gate[..3].copy_from_slice(&[[N, 3, 0], [A, 1, 4], [O, 5, 2]]);
+    tables.rule[..2].copy_from_slice(&[6, 1]);
+    tables.wish[..3].copy_from_slice(&[[2, 5, 4], [3, 0, 0], [0, 0, 0]]);
+    tables
 }
 
-/// As many entries of each part as may be, or so many more of one of them.
-fn many(gates: usize, rules: usize, wishes: usize) -> Tables {
-    Tables {
+/// So many entries of each part, as far as there is room for them.
+fn many(gates: u32, rules: u32, wishes: u32) -> Tables {
+    let mut tables = Tables {
         switches: 20,
         faults: 16,
-        gates: gates as u32,
-        rules: rules as u32,
-        wishes: wishes as u32,
-        kind: vec![b'O'; gates],
-        left: (36..).take(gates).collect(),
-        right: vec![1; gates],
-        rule: vec![436; rules],
-        first: vec![41; wishes],
-        second: vec![40; wishes],
-        third: vec![2; wishes],
+        gates,
+        rules,
+        wishes,
+        ..Tables::default()
+    };
+    let [gates, rules, wishes] = tables.held();
+    for (gate, left) in tables.gate[..gates].iter_mut().zip(36..) {
+        *gate = [O, left, 1];
     }
+    tables.rule[..rules].fill(436);
+    tables.wish[..wishes].fill([41, 40, 2]);
+    tables
 }
 
 fn full() -> Tables {
-    many(MAX_GATES, MAX_RULES, MAX_WISHES)
+    many(MAX_GATES as u32, MAX_RULES as u32, MAX_WISHES as u32)
 }
 
 /// The sheet of [`full`].
@@ -102,91 +106,76 @@ const REFUSED: &[Refused] = &[
     ("21 switches, and every line wrong", |t| {
         *t = Tables { switches: 21, gates: 500, rules: 500, wishes: 500, ..Tables::default() }
     }, BAD_SIZE, 1),
-    ("a kind in a small letter", |t| t.kind[1] = b'a', BAD_FIELD, 3),
-    ("the letter of a rule as a kind", |t| t.kind[0] = b'R', BAD_FIELD, 2),
-    ("byte 0 as a kind", |t| t.kind[2] = 0, BAD_FIELD, 4),
-    ("N with a second point", |t| t.right[0] = 1, BAD_FIELD, 2),
-    ("N with point 0", |t| t.left[0] = 0, BAD_FIELD, 2),
-    ("A without a second point", |t| t.right[1] = 0, BAD_FIELD, 3),
-    ("O with point 0 first", |t| t.left[2] = 0, BAD_FIELD, 4),
-    ("a gate that names itself first", |t| t.left[1] = 5, BAD_FIELD, 3),
-    ("a gate that names itself second", |t| t.right[2] = 6, BAD_FIELD, 4),
-    ("a gate that names a later one", |t| t.left[0] = 6, BAD_FIELD, 2),
-    ("a point of 2^16 + 1", |t| t.left[1] = 0x1_0001, BAD_FIELD, 3),
-    ("a point of 2^31 + 1", |t| t.right[1] = 0x8000_0001, BAD_FIELD, 3),
+    ("a kind in a small letter", |t| t.gate[1][0] = b'a'.into(), BAD_FIELD, 3),
+    ("the letter of a rule as a kind", |t| t.gate[0][0] = b'R'.into(), BAD_FIELD, 2),
+    ("0 as a kind", |t| t.gate[2][0] = 0, BAD_FIELD, 4),
+    ("a kind of 2^8 and a letter", |t| t.gate[1][0] = 0x100 + A, BAD_FIELD, 3),
+    ("a kind of 2^31 and a letter", |t| t.gate[2][0] = 0x8000_0000 + O, BAD_FIELD, 4),
+    ("N with a second point", |t| t.gate[0][2] = 1, BAD_FIELD, 2),
+    ("N with point 0", |t| t.gate[0][1] = 0, BAD_FIELD, 2),
+    ("A without a second point", |t| t.gate[1][2] = 0, BAD_FIELD, 3),
+    ("O with point 0 first", |t| t.gate[2][1] = 0, BAD_FIELD, 4),
+    ("a gate that names itself first", |t| t.gate[1][1] = 5, BAD_FIELD, 3),
+    ("a gate that names itself second", |t| t.gate[2][2] = 6, BAD_FIELD, 4),
+    ("a gate that names a later one", |t| t.gate[0][1] = 6, BAD_FIELD, 2),
+    ("a point of 2^16 + 1", |t| t.gate[1][1] = 0x1_0001, BAD_FIELD, 3),
+    ("a point of 2^31 + 1", |t| t.gate[1][2] = 0x8000_0001, BAD_FIELD, 3),
     ("rule with point 0", |t| t.rule[0] = 0, BAD_FIELD, 5),
     ("rule with a point that is not there", |t| t.rule[1] = 7, BAD_FIELD, 6),
-    ("-0 as first literal", |t| t.first[1] = 1, BAD_FIELD, 8),
-    ("-0 as second literal", |t| t.second[1] = 1, BAD_FIELD, 8),
-    ("-0 as third literal", |t| t.third[0] = 1, BAD_FIELD, 7),
-    ("-0 in an empty wish", |t| t.third[2] = 1, BAD_FIELD, 9),
-    ("a literal of switch 3", |t| t.first[1] = 6, BAD_FIELD, 8),
-    ("a negative literal of switch 3", |t| t.third[0] = 7, BAD_FIELD, 7),
-    ("a literal of 2^31 + 2", |t| t.first[0] = 0x8000_0002, BAD_FIELD, 7),
-    ("a literal after a 0", |t| t.third[1] = 2, BAD_FIELD, 8),
-    ("a literal after two zeros", |t| t.third[2] = 4, BAD_FIELD, 9),
-    ("two literals after a 0", |t| t.first[0] = 0, BAD_FIELD, 7),
-    ("kind shorter than the count", |t| t.kind.truncate(2), BAD_FIELD, 4),
-    ("left shorter than the count", |t| t.left.truncate(1), BAD_FIELD, 3),
-    ("right shorter than the count, at N", |t| t.right.truncate(0), BAD_FIELD, 2),
-    ("right shorter than the count, at O", |t| t.right.truncate(2), BAD_FIELD, 4),
-    ("rule shorter than the count", |t| t.rule.truncate(1), BAD_FIELD, 6),
-    ("first shorter than the count", |t| t.first.truncate(2), BAD_FIELD, 9),
-    ("second shorter than the count", |t| t.second.truncate(1), BAD_FIELD, 8),
-    ("third shorter than the count, at an empty wish", |t| t.third.truncate(2), BAD_FIELD, 9),
+    ("-0 as first literal", |t| t.wish[1][0] = 1, BAD_FIELD, 8),
+    ("-0 as second literal", |t| t.wish[1][1] = 1, BAD_FIELD, 8),
+    ("-0 as third literal", |t| t.wish[0][2] = 1, BAD_FIELD, 7),
+    ("-0 in an empty wish", |t| t.wish[2][2] = 1, BAD_FIELD, 9),
+    ("a literal of switch 3", |t| t.wish[1][0] = 6, BAD_FIELD, 8),
+    ("a negative literal of switch 3", |t| t.wish[0][2] = 7, BAD_FIELD, 7),
+    ("a literal of 2^31 + 2", |t| t.wish[0][0] = 0x8000_0002, BAD_FIELD, 7),
+    ("a literal after a 0", |t| t.wish[1][2] = 2, BAD_FIELD, 8),
+    ("a literal after two zeros", |t| t.wish[2][2] = 4, BAD_FIELD, 9),
+    ("two literals after a 0", |t| t.wish[0][0] = 0, BAD_FIELD, 7),
+    ("a gate that is all 0", |t| t.gates = 4, BAD_FIELD, 5),
+    ("a rule that is 0", |t| t.rules = 3, BAD_FIELD, 7),
     ("2^32 - 1 gates", |t| t.gates = u32::MAX, BAD_FIELD, 5),
     ("2^16 + 2 rules", |t| t.rules = 0x1_0002, BAD_FIELD, 7),
-    ("2^32 - 1 wishes", |t| t.wishes = u32::MAX, BAD_FIELD, 10),
-    ("a wrong wish, and a rule wrong before it", |t| (t.first[0], t.rule[1]) = (1, 9), BAD_FIELD, 6),
-    ("a column too short, and an earlier line wrong", |t| {
-        t.rule.truncate(1);
-        t.right[1] = 5;
-    }, BAD_FIELD, 3),
+    // Wishes that are all 0 are right ones.
+    ("2^32 - 1 wishes", |t| t.wishes = u32::MAX, TOO_MANY, 71),
+    ("a wrong wish, and a rule wrong before it", |t| (t.wish[0][0], t.rule[1]) = (1, 9), BAD_FIELD, 6),
     ("405 gates", |t| *t = many(405, 0, 0), TOO_MANY, 402),
     ("405 gates, the third wrong", |t| {
         *t = many(405, 0, 0);
-        t.right[2] = 39;
+        t.gate[2][2] = 39;
     }, BAD_FIELD, 4),
-    ("401 gates, the last wrong", |t| {
+    ("401 gates, the 400th wrong", |t| {
         *t = many(401, 0, 0);
-        t.kind[400] = b'?';
-    }, TOO_MANY, 402),
-    ("405 gates of which 400 are held", |t| {
-        *t = many(400, 0, 0);
-        t.gates = 405;
-    }, TOO_MANY, 402),
-    ("405 gates of which 399 are held", |t| {
-        *t = many(399, 0, 0);
-        t.gates = 405;
+        t.gate[399][0] = b'?'.into();
     }, BAD_FIELD, 401),
-    ("2^32 - 1 gates of which 401 are held", |t| {
-        *t = many(401, 0, 0);
-        t.gates = u32::MAX;
-    }, TOO_MANY, 402),
+    ("2^32 - 1 gates of which all in the room are right", |t| *t = many(u32::MAX, 0, 0), TOO_MANY, 402),
     ("401 gates, and a rule wrong", |t| {
         *t = many(401, 1, 1);
         t.rule[0] = 0;
     }, TOO_MANY, 402),
+    // A writer that goes on behind the room for gates finds one there.
+    ("401 gates, and rules that would be a gate", |t| {
+        *t = many(401, 3, 0);
+        t.rule[..3].copy_from_slice(&[A, 1, 1]);
+    }, TOO_MANY, 402),
     ("65 rules after 400 gates", |t| *t = many(400, 65, 64), TOO_MANY, 466),
-    ("65 rules, the last wrong", |t| {
-        *t = many(400, 65, 0);
-        t.rule[64] = 437;
-    }, TOO_MANY, 466),
     ("65 rules, a gate wrong", |t| {
         *t = many(400, 65, 0);
-        t.left[399] = 436;
+        t.gate[399][1] = 436;
     }, BAD_FIELD, 401),
     ("65 rules and 65 wishes", |t| *t = many(400, 65, 65), TOO_MANY, 466),
     ("65 wishes on full tables", |t| *t = many(400, 64, 65), TOO_MANY, 530),
     ("65 wishes, the 64th wrong", |t| {
         *t = many(400, 64, 65);
-        t.second[63] = 42;
+        t.wish[63][1] = 42;
     }, BAD_FIELD, 529),
     ("a rule without any point", |t| {
-        *t = Tables { rules: 1, rule: vec![1], ..Tables::default() }
+        *t = Tables { rules: 1, ..Tables::default() };
+        t.rule[0] = 1;
     }, BAD_FIELD, 2),
     ("a gate without any point", |t| {
-        *t = Tables { gates: 1, kind: b"N".to_vec(), left: vec![1], right: vec![0], ..Tables::default() }
+        *t = Tables { gates: 1, ..Tables::default() };
+        t.gate[0] = [N, 1, 0];
     }, BAD_FIELD, 2),
 ];
 
@@ -200,21 +189,17 @@ const WRITTEN: &[Right] = &[
     ("the largest sizes", |t| {
         *t = Tables { switches: 20, faults: 16, ..Tables::default() }
     }, "H 20 16; Z 1"),
-    ("an empty wish without switches", |t| {
-        *t = Tables { wishes: 1, first: vec![0], second: vec![0], third: vec![0], ..Tables::default() }
-    }, "H; W; Z 2"),
-    ("a gate that names a point twice", |t| (t.left[1], t.right[1]) = (4, 4),
+    ("an empty wish without switches", |t| *t = Tables { wishes: 1, ..Tables::default() }, "H; W; Z 2"),
+    ("a gate that names a point twice", |t| t.gate[1] = [A, 4, 4],
         "H 2 1; N 3; A 4 4; O 5 2; R 6; R 1; W 1 -2 2; W -1; W; Z 9"),
-    ("fewer gates than the columns hold", |t| (t.gates, t.rules) = (2, 0),
+    ("fewer gates and rules than there are", |t| (t.gates, t.rules) = (2, 0),
         "H 2 1; N 3; A 1 4; W 1 -2 2; W -1; W; Z 6"),
     ("wrong entries after the counted ones", |t| {
-        t.kind.extend([0, b'N']);
-        t.left.push(u32::MAX);
-        t.rule.extend([0, 99]);
-        t.first.push(1);
-        t.third.extend([5, 1]);
+        t.gate[3..].fill([0, u32::MAX, 5]);
+        t.rule[2..].fill(99);
+        t.wish[3..].fill([0, 1, 5]);
     }, BASE),
-    ("no count, and columns full", |t| (t.gates, t.rules, t.wishes) = (0, 0, 0), "H 2 1; Z 1"),
+    ("no count, and entries", |t| (t.gates, t.rules, t.wishes) = (0, 0, 0), "H 2 1; Z 1"),
 ];
 
 /// All cases, each with some rooms.

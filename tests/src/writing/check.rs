@@ -1,11 +1,12 @@
 //! One set of tables written with many rooms: what a writer returns and writes is held to the second
 //! writer.
 
-use super::{put, sheet, Outcome, Tables, Written};
+use super::{put, sheet, Outcome, Written};
 use crate::generate::Random;
 use crate::oracle::{LINE, MAX_BYTES};
+use crate::tables::Tables;
 
-/// Bytes before and after a lent buffer, and entries after a lent column, that must stay as they are.
+/// Bytes before and after a lent buffer that must stay as they are.
 pub const GUARD: usize = 8;
 /// The rooms next to a sheet's length that are tried, to each side: more than a line.
 const AROUND: usize = LINE + 1;
@@ -83,16 +84,4 @@ fn rooms(r: &mut Random, tables: &Tables, outcome: &Outcome) -> Vec<usize> {
         Err(_) => rooms.extend([LINE, need - 1, need]),
     }
     rooms
-}
-
-/// The tables with entries behind each column. They would be right, so a writer that goes on behind
-/// the end of a column takes them.
-pub fn with_more_behind(tables: &Tables) -> Tables {
-    let mut more = tables.clone();
-    more.kind.extend([b'A'; GUARD]);
-    // A first literal and nothing else in a wish.
-    for (column, entry) in more.columns().into_iter().zip([1, 1, 1, 2, 0, 0]) {
-        column.extend([entry; GUARD]);
-    }
-    more
 }

@@ -1,14 +1,16 @@
 //! Tables for the comparison: right ones, tables damaged in many ways, and noise. Tables follow from
 //! their seed and index alone, so each can be made again.
 
-use super::{Tables, COLUMNS_OF_WORDS};
 use crate::generate::{point, size, string, Random};
-use crate::oracle::{read, MAX_FAULTS, MAX_GATES, MAX_RULES, MAX_SWITCHES, MAX_WISHES};
+use crate::oracle::{read, LITERALS, MAX_FAULTS, MAX_GATES, MAX_RULES, MAX_SWITCHES, MAX_WISHES};
 use crate::planning::planning_sheet;
+use crate::tables::Tables;
 
 const KINDS: &[u8] = b"NAO";
 /// Kinds that no gate has: the other letters of a sheet, and bytes beside those of gates.
 const NO_KINDS: &[u8] = b"HRWZBMP@ 0\n\0\x7f\xff\xce";
+/// What makes a letter a small one.
+const SMALL: u32 = 0x20;
 
 /// The word that would be the literal -0.
 pub const MINUS_ZERO: u32 = 1;
@@ -46,8 +48,9 @@ fn some_counts(r: &mut Random) -> Counts {
     }
 }
 
-/// Tables that are right in everything but perhaps their counts. Without any switch or fault there
-/// is no point, so there is one where gates or rules are asked for.
+/// Tables that are right in everything but perhaps their counts: what there is no room for is counted
+/// alone. Without any switch or fault there is no point, so there is one where gates or rules are asked
+/// for.
 fn of_counts(r: &mut Random, [gates, rules, wishes]: Counts) -> Tables {
     let switches = size(r, MAX_SWITCHES);
     let mut faults = size(r, MAX_FAULTS);
@@ -63,25 +66,24 @@ fn of_counts(r: &mut Random, [gates, rules, wishes]: Counts) -> Tables {
         ..Tables::default()
     };
     let inputs = switches + faults;
-    for i in 0..gates as i32 {
+    let [gates, rules, wishes] = tables.held();
+    for (gate, before) in tables.gate[..gates].iter_mut().zip(inputs..) {
         let kind = r.pick(KINDS);
-        tables.kind.push(kind);
-        tables.left.push(point(r, inputs + i) as u32);
-        tables.right.push(match kind {
+        let left = point(r, before) as u32;
+        let right = match kind {
             b'N' => 0,
-            _ => point(r, inputs + i) as u32,
-        });
+            _ => point(r, before) as u32,
+        };
+        *gate = [kind.into(), left, right];
     }
-    for _ in 0..rules {
-        tables.rule.push(point(r, inputs + gates as i32) as u32);
+    for rule in &mut tables.rule[..rules] {
+        *rule = point(r, inputs + gates as i32) as u32;
     }
-    for _ in 0..wishes {
+    for wish in &mut tables.wish[..wishes] {
         let literals = if switches == 0 { 0 } else { r.below(4) };
-        let mut words = [0; 3];
-        for word in &mut words[..literals] {
+        for word in &mut wish[..literals] {
             *word = literal(r, tables.switches);
         }
-        set_wish(&mut tables, wishes, words);
     }
     tables
 }
@@ -93,17 +95,6 @@ fn literal(r: &mut Random, switches: u32) -> u32 {
         _ => 1 + r.below(switches as usize) as u32,
     };
     2 * switch + r.below(2) as u32
-}
-
-/// Puts a wish in the place of wish i, counted from 0, or at the end.
-fn set_wish(tables: &mut Tables, i: usize, words: [u32; 3]) {
-    let columns = [&mut tables.first, &mut tables.second, &mut tables.third];
-    for (column, word) in columns.into_iter().zip(words) {
-        match column.get_mut(i) {
-            Some(old) => *old = word,
-            None => column.push(word),
-        }
-    }
 }
 
 fn right(r: &mut Random) -> Tables {
@@ -164,20 +155,12 @@ fn points(tables: &Tables) -> u32 {
     inputs(tables) + tables.gates.min(LARGE)
 }
 
-/// One of so many entries; if there are more than may be, often the first too many.
-fn entry(r: &mut Random, held: usize, most: usize) -> usize {
-    if held > most && r.one_in(2) {
-        return most;
-    }
-    r.place(held)
-}
-
 fn damage_gate(r: &mut Random, tables: &mut Tables) {
     let [held, _, _] = tables.held();
     if held == 0 {
         return;
     }
-    let i = entry(r, held, MAX_GATES);
+    let i = r.place(held);
     let own = inputs(tables) + i as u32 + 1;
     let telling = [0, own + 1, own - 1, points(tables), 1];
     let word = match r.below(4) {
@@ -185,18 +168,18 @@ fn damage_gate(r: &mut Random, tables: &mut Tables) {
         1 => own,
         _ => r.pick(&telling),
     };
-    match r.below(8) {
-        0 => tables.kind[i] = r.pick(NO_KINDS),
-        1 => tables.kind[i] = r.word() as u8,
-        2 => tables.kind[i].make_ascii_lowercase(),
+    let gate = &mut tables.gate[i];
+    match r.below(9) {
+        0 => gate[0] = r.pick(NO_KINDS).into(),
+        1 => gate[0] = near(r, gate[0]),
+        2 => gate[0] |= SMALL,
+        // Bits that a letter in a byte does not have.
+        8 => gate[0] |= 1 << r.between(8, 31),
         // A gate becomes one of another kind, with the points that it has.
-        3 => tables.kind[i] = r.pick(KINDS),
-        4 => {
-            tables.kind[i] = b'N';
-            tables.right[i] = word;
-        }
-        5 | 6 => tables.left[i] = word,
-        _ => tables.right[i] = word,
+        3 => gate[0] = r.pick(KINDS).into(),
+        4 => *gate = [b'N'.into(), gate[1], word],
+        5 | 6 => gate[1] = word,
+        _ => gate[2] = word,
     }
 }
 
@@ -205,7 +188,7 @@ fn damage_rule(r: &mut Random, tables: &mut Tables) {
     if held == 0 {
         return;
     }
-    let i = entry(r, held, MAX_RULES);
+    let i = r.place(held);
     let last = points(tables);
     tables.rule[i] = match r.below(3) {
         0 => near(r, last),
@@ -218,32 +201,30 @@ fn damage_wish(r: &mut Random, tables: &mut Tables) {
     if held == 0 {
         return;
     }
-    let i = entry(r, held, MAX_WISHES);
+    let i = r.place(held);
     // The literals of the last switch, those of one more, and one of the last fault.
     let last = 2 * tables.switches.min(LARGE);
     let fault = 2 * inputs(tables);
     let telling = [MINUS_ZERO, last, last + 1, last + 2, last + 3, fault, fault];
     // Literals that are right, if there is a switch.
     let [a, b] = [2, 3].map(|lowest| lowest.max(last + r.below(2) as u32));
-    let words = match r.below(14) {
-        0 => [0, a, 0],
-        1 => [0, 0, a],
-        2 => [a, 0, b],
-        3 => [0, a, b],
-        4 => [MINUS_ZERO, 0, 0],
-        5 => [a, b, MINUS_ZERO],
+    let wish = &mut tables.wish[i];
+    match r.below(14) {
+        0 => *wish = [0, a, 0],
+        1 => *wish = [0, 0, a],
+        2 => *wish = [a, 0, b],
+        3 => *wish = [0, a, b],
+        4 => *wish = [MINUS_ZERO, 0, 0],
+        5 => *wish = [a, b, MINUS_ZERO],
         n => {
-            let mut words = [tables.first[i], tables.second[i], tables.third[i]];
             let word = match n {
                 6 => near(r, last),
                 _ => r.pick(&telling),
             };
-            let used = words.iter().filter(|&&word| word != 0).count();
-            words[r.below((used + 1).min(3))] = word;
-            words
+            let used = wish.iter().filter(|&&word| word != 0).count();
+            wish[r.below((used + 1).min(LITERALS))] = word;
         }
-    };
-    set_wish(tables, i, words);
+    }
 }
 
 fn damage_word(r: &mut Random, tables: &mut Tables) {
@@ -266,39 +247,23 @@ fn damage_size(r: &mut Random, tables: &mut Tables) {
     };
 }
 
-/// A column becomes shorter than it was, mostly by one entry.
-fn cut(r: &mut Random, tables: &mut Tables) {
-    let shorter = |r: &mut Random, length: usize| match r.below(4) {
-        0 => 0,
-        1 => r.below(length + 1),
-        _ => length.saturating_sub(1),
-    };
-    match r.below(COLUMNS_OF_WORDS + 1) {
-        COLUMNS_OF_WORDS => {
-            let length = shorter(r, tables.kind.len());
-            tables.kind.truncate(length);
-        }
-        column => {
-            let cut = &mut tables.columns()[column];
-            cut.truncate(shorter(r, cut.len()));
-        }
-    }
-}
-
-/// Entries after the counted ones, which may be anything.
+/// Anything at all after the counted entries, in all of the room or in some of it.
 fn add_junk(r: &mut Random, tables: &mut Tables) {
-    let most = r.pick(&[1, 4, 40]);
-    for _ in 0..r.below(most + 1) {
-        tables.kind.push(r.word() as u8);
-    }
-    for column in tables.columns() {
-        for _ in 0..r.below(most + 1) {
-            column.push(r.word() >> r.pick(&[0, 16, 26, 30]));
-        }
+    let [gates, rules, wishes] = tables.held();
+    let gates = tables.gate[gates..].as_flattened_mut();
+    let rules = &mut tables.rule[rules..];
+    let wishes = tables.wish[wishes..].as_flattened_mut();
+    let shift = r.pick(&[0, 16, 26, 30]);
+    for room in [gates, rules, wishes] {
+        let words = match r.below(3) {
+            0 => room.len(),
+            _ => room.len().min(r.below(9)),
+        };
+        room[..words].fill_with(|| r.word() >> shift);
     }
 }
 
-/// A count becomes another one than the columns were made for.
+/// A count becomes another one than the entries were made for.
 fn damage_count(r: &mut Random, tables: &mut Tables) {
     let counts = [&mut tables.gates, &mut tables.rules, &mut tables.wishes];
     let count: &mut u32 = counts.into_iter().nth(r.below(3)).expect("three counts");
@@ -309,37 +274,42 @@ fn damage_count(r: &mut Random, tables: &mut Tables) {
     };
 }
 
-/// One or more parts with more entries than there may be, which the columns hold.
+/// One or more parts with more entries than there may be, by a few or by many.
 fn beyond(r: &mut Random) -> Tables {
     let mut counts = below(r, [12, 6, 6]);
     for _ in 0..1 + r.below(2) {
         let part = r.below(counts.len());
-        counts[part] = MOST[part] + 1 + r.below(5);
+        let most = u32::MAX as usize - MOST[part];
+        counts[part] = MOST[part] + r.pick(&[1, 2, 3, 4, 5, 1 << 8, 1 << 16, most]);
     }
     of_counts(r, counts)
 }
 
 /// Any words at all, with counts that may fit them.
 fn noise(r: &mut Random) -> Tables {
+    let [gates, rules, wishes] = below(r, [6, 4, 6]).map(|n| n as u32);
     let mut tables = Tables {
         switches: size(r, MAX_SWITCHES + 1) as u32,
         faults: size(r, MAX_FAULTS + 1) as u32,
+        gates,
+        rules,
+        wishes,
         ..Tables::default()
     };
-    let [gates, rules, wishes] = below(r, [6, 4, 6]).map(|n| n as u32);
-    (tables.gates, tables.rules, tables.wishes) = (gates, rules, wishes);
-    let any_length = |r: &mut Random| r.pick(&[2, 8, 8, 8, 40]);
-    for _ in 0..any_length(r) {
+    let masks = [1, 3, 7, 31, u32::MAX];
+    let mask = r.pick(&masks);
+    for gate in &mut tables.gate[..8] {
         let kind = match r.below(8) {
-            0 => r.word() as u8,
-            _ => r.pick(KINDS),
+            0 => r.word(),
+            _ => r.pick(KINDS).into(),
         };
-        tables.kind.push(kind);
+        *gate = [kind, r.word() & mask, r.word() & mask];
     }
-    for column in tables.columns() {
-        let mask = r.pick(&[1, 3, 7, 31, u32::MAX]);
-        column.extend((0..any_length(r)).map(|_| r.word() & mask));
-    }
+    let mask = r.pick(&masks);
+    tables.rule[..8].fill_with(|| r.word() & mask);
+    let mask = r.pick(&masks);
+    let wishes = tables.wish[..8].as_flattened_mut();
+    wishes.fill_with(|| r.word() & mask);
     tables
 }
 
@@ -350,7 +320,7 @@ type Damage = fn(&mut Random, &mut Tables);
 
 /// What tables are made by, one after another by their index, so that each comes equally often.
 #[rustfmt::skip]
-const RECIPES: [(&str, Recipe); 15] = [
+const RECIPES: [(&str, Recipe); 13] = [
     ("right", right),
     ("right, and entries after the counted ones", |r| damaged(r, right, &[add_junk])),
     ("one gate", |r| damaged(r, with_entries, &[damage_gate])),
@@ -360,10 +330,8 @@ const RECIPES: [(&str, Recipe); 15] = [
     ("the sizes", |r| damaged(r, right, &[damage_size])),
     ("beyond a limit", beyond),
     ("beyond a limit, and a word", |r| damaged(r, beyond, &[damage_word])),
-    ("beyond a limit, and a column cut", |r| damaged(r, beyond, &[cut])),
-    ("a column cut", |r| damaged(r, with_entries, &[cut])),
     ("a count", |r| damaged(r, with_entries, &[damage_count])),
-    ("a count, and entries after the columns", |r| damaged(r, right, &[add_junk, damage_count])),
+    ("a count, and entries after the counted ones", |r| damaged(r, right, &[add_junk, damage_count])),
     ("several", several),
     ("noise", noise),
 ];
@@ -385,7 +353,7 @@ fn damaged(r: &mut Random, from: Recipe, damages: &[Damage]) -> Tables {
 
 /// Two to four damages of every kind.
 fn several(r: &mut Random) -> Tables {
-    const DAMAGES: [Damage; 8] = [
+    const DAMAGES: [Damage; 7] = [
         damage_gate,
         damage_rule,
         damage_wish,
@@ -393,7 +361,6 @@ fn several(r: &mut Random) -> Tables {
         damage_count,
         damage_size,
         add_junk,
-        cut,
     ];
     let from: Recipe = r.pick(&[right, with_entries, with_entries, beyond]);
     let damages: Vec<Damage> = (0..2 + r.below(3)).map(|_| r.pick(&DAMAGES)).collect();
@@ -447,7 +414,7 @@ mod tests {
     fn every_recipe_does_its_part() {
         let mut numbers: BTreeMap<&str, [u32; 7]> = BTreeMap::new();
         let mut longest = 0;
-        for index in 0..16_000 {
+        for index in 0..20_000 {
             let made = made_tables(1, index);
             let number = match sheet(&made.tables) {
                 Ok(bytes) => {
@@ -477,7 +444,7 @@ mod tests {
             };
             assert!(of(part) >= 200, "{kind}: {came:?}");
             let besides = match kind {
-                "beyond a limit, and a word" | "beyond a limit, and a column cut" => TOO_MANY,
+                "beyond a limit, and a word" => TOO_MANY,
                 "noise" => BAD_SIZE,
                 _ => 0,
             };

@@ -8,32 +8,13 @@ pub mod generate;
 mod wrong;
 
 use crate::oracle::{
-    Gate, Refusal, Sheet, BAD_FIELD, BAD_SIZE, COLUMNS, MAX_FAULTS, MAX_GATES, MAX_RULES,
+    Refusal, BAD_FIELD, BAD_SIZE, COLUMNS, LITERALS, MAX_FAULTS, MAX_GATES, MAX_RULES,
     MAX_SWITCHES, MAX_WISHES, TOO_MANY,
 };
+use crate::tables::{word_of, Tables};
 
 /// The refusal of a buffer that is too short, the last in the order of refusals.
 pub const TOO_SHORT: u32 = 13;
-
-/// Tables as a caller lends them: counts, and a column for each word of a gate, a rule or a wish.
-#[derive(Clone, Debug, Default, PartialEq, Eq)]
-pub struct Tables {
-    pub switches: u32,
-    pub faults: u32,
-    pub gates: u32,
-    pub rules: u32,
-    pub wishes: u32,
-    pub kind: Vec<u8>,
-    pub left: Vec<u32>,
-    pub right: Vec<u32>,
-    pub rule: Vec<u32>,
-    pub first: Vec<u32>,
-    pub second: Vec<u32>,
-    pub third: Vec<u32>,
-}
-
-/// The columns of tables but for `kind`.
-const COLUMNS_OF_WORDS: usize = 6;
 
 /// What writing returns.
 #[derive(Clone, Copy, Debug, Default, PartialEq, Eq)]
@@ -55,7 +36,7 @@ fn refuse<T>(number: u32, place: usize) -> Result<T, Refusal> {
     })
 }
 
-/// Makes the line of an entry, counted from 0; none if the entry is not all there or not allowed.
+/// Makes the line of an entry, counted from 0; none if the entry is not allowed.
 type Entry = fn(&Tables, usize) -> Option<String>;
 
 /// The sheet of these tables. A line is tested where it would stand: after those before it.
@@ -90,8 +71,8 @@ fn line(letter: char, [first, second, third]: [i32; 3]) -> String {
 }
 
 fn gate(tables: &Tables, i: usize) -> Option<String> {
-    let kind = *tables.kind.get(i)?;
-    let (left, right) = (*tables.left.get(i)?, *tables.right.get(i)?);
+    let [kind, left, right] = tables.gate[i];
+    let kind = u8::try_from(kind).ok()?;
     let points_before = 1..=tables.switches + tables.faults + i as u32;
     let right_allowed = match kind {
         b'N' => right == 0,
@@ -104,22 +85,20 @@ fn gate(tables: &Tables, i: usize) -> Option<String> {
 
 /// All gates stand before a rule.
 fn rule(tables: &Tables, i: usize) -> Option<String> {
-    let point = *tables.rule.get(i)?;
+    let point = tables.rule[i];
     let points = 1..=tables.switches + tables.faults + tables.gates;
     let allowed = points.contains(&point);
     allowed.then(|| line('R', [point as i32, 0, 0]))
 }
 
 fn wish(tables: &Tables, i: usize) -> Option<String> {
-    let literal = |column: &[u32]| match *column.get(i)? {
-        0 => Some(0),
-        word => literals(tables.switches).find(|&l| word_of(l) == word),
-    };
-    let fields = [
-        literal(&tables.first)?,
-        literal(&tables.second)?,
-        literal(&tables.third)?,
-    ];
+    let mut fields = [0; LITERALS];
+    for (field, word) in fields.iter_mut().zip(tables.wish[i]) {
+        *field = match word {
+            0 => 0,
+            _ => literals(tables.switches).find(|&l| word_of(l) == word)?,
+        };
+    }
     let after_zero = fields.windows(2).any(|two| two[0] == 0 && two[1] != 0);
     (!after_zero).then(|| line('W', fields))
 }
@@ -127,11 +106,6 @@ fn wish(tables: &Tables, i: usize) -> Option<String> {
 /// All literals that there are with so many switches.
 fn literals(switches: u32) -> impl Iterator<Item = i32> {
     (1..=switches as i32).flat_map(|k| [k, -k])
-}
-
-/// The word of a literal: k is 2k, and -k is 2k + 1. So none has the word 1, which would be -0.
-fn word_of(literal: i32) -> u32 {
-    2 * literal.unsigned_abs() + u32::from(literal < 0)
 }
 
 /// Puts a sheet into the buffer's front, if it has room.
@@ -163,88 +137,23 @@ impl From<Refusal> for Written {
     }
 }
 
-impl Tables {
-    /// The tables of a sheet that was read.
-    pub fn of(sheet: &Sheet) -> Tables {
-        let literal = |k: usize| {
-            let words = sheet.wishes.iter().map(|wish| wish.get(k).copied());
-            words.map(|l| l.map_or(0, word_of)).collect()
-        };
-        Tables {
-            switches: sheet.switches,
-            faults: sheet.faults,
-            gates: sheet.gates.len() as u32,
-            rules: sheet.rules.len() as u32,
-            wishes: sheet.wishes.len() as u32,
-            kind: sheet.gates.iter().map(|gate| gate.kind).collect(),
-            left: sheet.gates.iter().map(|gate| gate.left).collect(),
-            right: sheet.gates.iter().map(|gate| gate.right).collect(),
-            rule: sheet.rules.clone(),
-            first: literal(0),
-            second: literal(1),
-            third: literal(2),
-        }
-    }
-
-    /// What tables that are allowed say, up to their counts.
-    pub fn said(&self) -> Sheet {
-        let gate = |i: usize| Gate {
-            kind: self.kind[i],
-            left: self.left[i],
-            right: self.right[i],
-        };
-        let wish = |i: usize| {
-            let words = [self.first[i], self.second[i], self.third[i]];
-            let literals = words.iter().filter(|&&word| word != 0).map(|&word| {
-                let switch = (word / 2) as i32;
-                match word % 2 {
-                    0 => switch,
-                    _ => -switch,
-                }
-            });
-            literals.collect()
-        };
-        Sheet {
-            switches: self.switches,
-            faults: self.faults,
-            gates: (0..self.gates as usize).map(gate).collect(),
-            rules: self.rule[..self.rules as usize].to_vec(),
-            wishes: (0..self.wishes as usize).map(wish).collect(),
-        }
-    }
-
-    /// How many gates, rules and wishes the columns hold.
-    fn held(&self) -> [usize; 3] {
-        let shortest = |columns: &[usize]| columns.iter().min().copied().unwrap_or(0);
-        [
-            shortest(&[self.kind.len(), self.left.len(), self.right.len()]),
-            self.rule.len(),
-            shortest(&[self.first.len(), self.second.len(), self.third.len()]),
-        ]
-    }
-
-    /// The columns of words, which are all but `kind`, in the order in which the call takes them.
-    fn columns(&mut self) -> [&mut Vec<u32>; COLUMNS_OF_WORDS] {
-        [
-            &mut self.left,
-            &mut self.right,
-            &mut self.rule,
-            &mut self.first,
-            &mut self.second,
-            &mut self.third,
-        ]
-    }
-}
-
 #[cfg(test)]
 mod tests {
     use super::generate::made_tables;
     use super::*;
     use crate::generate::string;
     use crate::oracle::{self, MAX_LINES, MAX_NUMBER, MIN_NUMBER};
+    use std::iter::repeat;
 
-    /// The lines of tables as they would stand on a sheet, allowed or not; none if a column is too
-    /// short or a word cannot stand in a field.
+    /// The counted entries, with right ones where there is no room for more; none if they are too
+    /// many for a sheet.
+    fn entries<T: Copy>(room: &[T], count: u32, more: T) -> Option<impl Iterator<Item = T> + '_> {
+        let count = usize::try_from(count).ok().filter(|&n| n < MAX_LINES)?;
+        Some(room.iter().copied().chain(repeat(more)).take(count))
+    }
+
+    /// The lines of tables as they would stand on a sheet, allowed or not; none if they are too many or
+    /// a word cannot stand in a field.
     fn lines_of(tables: &Tables) -> Option<Vec<u8>> {
         let field = |word: u32| i32::try_from(word).ok().filter(|&n| n <= MAX_NUMBER);
         // No field holds -0.
@@ -254,20 +163,19 @@ mod tests {
         };
         let head = [field(tables.switches)?, field(tables.faults)?, 0];
         let mut lines = vec![line('H', head)];
-        for i in 0..tables.gates as usize {
-            let kind = *tables.kind.get(i)?;
-            let (left, right) = (*tables.left.get(i)?, *tables.right.get(i)?);
-            let gate = b"NAO".contains(&kind);
-            lines.push(gate.then(|| Some(line(kind.into(), [field(left)?, field(right)?, 0])))??);
+        let more = [u32::from(b'N'), 1, 0];
+        for [kind, left, right] in entries(&tables.gate, tables.gates, more)? {
+            let kind = u8::try_from(kind)
+                .ok()
+                .filter(|kind| b"NAO".contains(kind))?;
+            lines.push(line(kind.into(), [field(left)?, field(right)?, 0]));
         }
-        for i in 0..tables.rules as usize {
-            lines.push(line('R', [field(*tables.rule.get(i)?)?, 0, 0]));
+        for point in entries(&tables.rule, tables.rules, 1)? {
+            lines.push(line('R', [field(point)?, 0, 0]));
         }
-        for i in 0..tables.wishes as usize {
-            let first = literal(*tables.first.get(i)?)?;
-            let second = literal(*tables.second.get(i)?)?;
-            let third = literal(*tables.third.get(i)?)?;
-            lines.push(line('W', [first, second, third]));
+        for [first, second, third] in entries(&tables.wish, tables.wishes, [0; LITERALS])? {
+            let fields = [literal(first)?, literal(second)?, literal(third)?];
+            lines.push(line('W', fields));
         }
         lines.push(line('Z', [lines.len() as i32, 0, 0]));
         (lines.len() <= MAX_LINES).then(|| lines.concat().into_bytes())

@@ -3,12 +3,13 @@
 
 use super::check::Trial;
 use super::generate::{made_tables, MINUS_ZERO};
-use super::{gate, line, put, refuse, rule, sheet, wish, Outcome, Tables, Written, TOO_SHORT};
+use super::{line, put, refuse, sheet, Outcome, Written, TOO_SHORT};
 use crate::generate::Random;
 use crate::oracle::{
     BAD_FIELD, BAD_SIZE, LINE, MAX_BYTES, MAX_FAULTS, MAX_GATES, MAX_RULES, MAX_SWITCHES,
     MAX_WISHES, TOO_MANY,
 };
+use crate::tables::Tables;
 
 /// What tables give, and how it is put into the buffer.
 struct Wrong {
@@ -31,44 +32,50 @@ const fn placed(name: &'static str, put: fn(&Tables, &Outcome, &mut [u8]) -> Wri
 
 /// The wrong writers.
 #[rustfmt::skip]
-const WRONG: [Wrong; 24] = [
+const WRONG: [Wrong; 26] = [
     tested("the second word of N not looked at", |t| changed(t, |t| {
-        for i in 0..t.kind.len().min(t.right.len()) {
-            if t.kind[i] == b'N' {
-                t.right[i] = 0;
-            }
-        }
+        t.gate.iter_mut().filter(|gate| gate[0] == u32::from(b'N')).for_each(|gate| gate[2] = 0);
     })),
     tested("-0 taken for no literal", |t| changed(t, |t| each_literal(t, |_, word| {
         if word == MINUS_ZERO { 0 } else { word }
     }))),
-    tested("a literal after a 0 let through", |t| changed(t, literals_first)),
+    tested("a literal after a 0 let through", |t| changed(t, |t| {
+        t.wish.iter_mut().for_each(|wish| wish.sort_by_key(|&word| word == 0));
+    })),
     tested("a fault let through as a switch", |t| changed(t, |t| each_literal(t, |t, word| {
         let inputs = t.switches.saturating_add(t.faults);
         if word / 2 > t.switches && word / 2 <= inputs { 2 } else { word }
     }))),
     tested("a gate that names itself let through", |t| changed(t, |t| {
         let inputs = t.switches.saturating_add(t.faults);
-        for column in [&mut t.left, &mut t.right] {
-            for (i, word) in column.iter_mut().enumerate() {
+        for (i, [_, left, right]) in t.gate.iter_mut().enumerate() {
+            for word in [left, right] {
                 if *word == inputs.saturating_add(i as u32 + 1) {
                     *word = 1;
                 }
             }
         }
     })),
-    tested("kinds in small letters let through", |t| changed(t, |t| t.kind.make_ascii_uppercase())),
+    tested("kinds in small letters let through", |t| changed(t, |t| each_kind(t, |kind| {
+        u8::try_from(kind).map_or(kind, |byte| byte.to_ascii_uppercase().into())
+    }))),
+    tested("kinds of 8 bits", |t| changed(t, |t| each_kind(t, |kind| kind & 0xff))),
+    tested("any other kind taken for O", |t| changed(t, |t| each_kind(t, |kind| {
+        if [b'N', b'A'].map(u32::from).contains(&kind) { kind } else { b'O'.into() }
+    }))),
     tested("faults up to the switches' limit", |t| changed(t, |t| {
         if t.faults <= MAX_SWITCHES as u32 {
             t.faults = t.faults.min(MAX_FAULTS as u32);
         }
     })),
-    tested("the columns' length taken for the count", |t| changed(t, |t| {
-        (t.gates, t.rules, t.wishes) = (t.kind.len() as u32, t.rule.len() as u32, t.first.len() as u32);
+    tested("the first entry that is 0 taken for the end", |t| changed(t, |t| {
+        let gates = t.gate.iter().position(|gate| *gate == [0; 3]);
+        let rules = t.rule.iter().position(|&rule| rule == 0);
+        let before = |end: Option<usize>, count: u32| end.map_or(count, |end| count.min(end as u32));
+        (t.gates, t.rules) = (before(gates, t.gates), before(rules, t.rules));
     })),
-    tested("the count cut to what the columns hold", |t| changed(t, |t| {
-        let [gates, rules, wishes] = t.held().map(|n| n as u32);
-        (t.gates, t.rules, t.wishes) = (t.gates.min(gates), t.rules.min(rules), t.wishes.min(wishes));
+    tested("the count cut to the room", |t| changed(t, |t| {
+        [t.gates, t.rules, t.wishes] = t.held().map(|n| n as u32);
     })),
     tested("counts of 16 bits", |t| changed(t, |t| {
         for count in [&mut t.gates, &mut t.rules, &mut t.wishes] {
@@ -76,9 +83,8 @@ const WRONG: [Wrong; 24] = [
         }
     })),
     tested("points of 16 bits", |t| changed(t, |t| {
-        for word in t.left.iter_mut().chain(&mut t.right).chain(&mut t.rule) {
-            *word &= 0xffff;
-        }
+        let points = t.gate.iter_mut().flat_map(|[_, left, right]| [left, right]);
+        points.chain(&mut t.rule).for_each(|word| *word &= 0xffff);
     })),
     tested("the limits looked at before the lines", limits_first),
     tested("6 before 5 on a line", six_before_five),
@@ -145,21 +151,16 @@ fn changed(tables: &Tables, change: fn(&mut Tables)) -> Outcome {
     sheet(&tables)
 }
 
-fn each_literal(tables: &mut Tables, change: fn(&Tables, u32) -> u32) {
-    let before = tables.clone();
-    for column in [&mut tables.first, &mut tables.second, &mut tables.third] {
-        for word in column {
-            *word = change(&before, *word);
-        }
+fn each_kind(tables: &mut Tables, change: fn(u32) -> u32) {
+    for gate in &mut tables.gate {
+        gate[0] = change(gate[0]);
     }
 }
 
-fn literals_first(tables: &mut Tables) {
-    let [_, _, held] = tables.held();
-    for i in 0..held {
-        let mut words = [tables.first[i], tables.second[i], tables.third[i]];
-        words.sort_by_key(|&word| word == 0);
-        [tables.first[i], tables.second[i], tables.third[i]] = words;
+fn each_literal(tables: &mut Tables, change: fn(&Tables, u32) -> u32) {
+    let before = tables.clone();
+    for word in tables.wish.as_flattened_mut() {
+        *word = change(&before, *word);
     }
 }
 
@@ -185,22 +186,20 @@ fn limits_first(tables: &Tables) -> Outcome {
     }
 }
 
+/// Gate 401 and rule 65 are looked at where they would stand in memory, which is in the room behind.
 fn six_before_five(tables: &Tables) -> Outcome {
     let right = sheet(tables);
+    let inputs = tables.switches.saturating_add(tables.faults);
+    let points = 1..=inputs.saturating_add(MAX_GATES as u32);
+    let behind = if tables.gates as usize > MAX_GATES {
+        let kind = tables.rule[0];
+        b"NAO".map(u32::from).contains(&kind)
+    } else {
+        let beyond = tables.rules as usize > MAX_RULES;
+        !beyond || points.contains(&tables.wish[0][0])
+    };
     match right {
-        Err(refusal) if refusal.number == TOO_MANY => {
-            let entry = if tables.gates as usize > MAX_GATES {
-                gate(tables, MAX_GATES)
-            } else if tables.rules as usize > MAX_RULES {
-                rule(tables, MAX_RULES)
-            } else {
-                wish(tables, MAX_WISHES)
-            };
-            match entry {
-                Some(_) => right,
-                None => refuse(BAD_FIELD, refusal.place),
-            }
-        }
+        Err(refusal) if refusal.number == TOO_MANY && !behind => refuse(BAD_FIELD, refusal.place),
         _ => right,
     }
 }
@@ -217,7 +216,7 @@ fn short(place: usize, length: usize) -> Written {
 #[test]
 fn wrong_writers_show() {
     let mut counts = [0; WRONG.len()];
-    for index in 0..6_000 {
+    for index in 0..8_000 {
         let tables = made_tables(3, index).tables;
         let trial = Trial::new(&mut Random::new(!3, index), &tables);
         for (wrong, count) in WRONG.iter().zip(&mut counts) {
