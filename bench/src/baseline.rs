@@ -4,6 +4,7 @@
 
 use comzsered::figures::{Found, Rated};
 use comzsered::Input;
+use planner_tests::oracle::{Gate, Sheet};
 
 use crate::typed;
 
@@ -32,6 +33,23 @@ impl Tables {
             right: Vec::with_capacity(gates),
             rules: Vec::with_capacity(64),
             wishes: Vec::with_capacity(64),
+        }
+    }
+
+    /// The same in the tests' own type.
+    pub fn said(&self) -> Sheet {
+        let gate = |i: usize| Gate {
+            kind: self.kind[i],
+            left: self.left[i],
+            right: self.right[i],
+        };
+        let literals = |wish: &[i32; 3]| wish.iter().copied().filter(|&l| l != 0).collect();
+        Sheet {
+            switches: self.a,
+            faults: self.f,
+            gates: (0..self.kind.len()).map(gate).collect(),
+            rules: self.rules.clone(),
+            wishes: self.wishes.iter().map(literals).collect(),
         }
     }
 }
@@ -108,7 +126,7 @@ fn right_bytes(field: &[u8]) -> usize {
 /// Number, place and column.
 pub type Refusal = (u32, usize, usize);
 
-fn read<'a>(input: impl Into<Input<'a>>) -> Result<Tables, Refusal> {
+pub fn read<'a>(input: impl Into<Input<'a>>) -> Result<Tables, Refusal> {
     match input.into() {
         Input::Sheet(sheet) => read_sheet(sheet),
         Input::Text(text) => typed::read(text),

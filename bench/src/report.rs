@@ -99,12 +99,21 @@ const HEAD: [&str; 15] = [
     "memory baseline",
 ];
 
+fn job_name(job: &Job) -> &'static str {
+    match job {
+        Job::Answer => "Answer",
+        Job::ShortRun(_) => "Short run",
+        Job::Rating(_) => "Rating",
+        Job::Read => "Reading",
+        Job::Write => "Writing",
+    }
+}
+
 fn cells(row: &Row, m: &Measured) -> Vec<String> {
-    let (job, length) = match &row.case.job {
-        Job::Answer => ("Answer", m.length.to_string()),
-        Job::ShortRun(patterns) => ("Short run", patterns.len().to_string()),
-        Job::Rating(_) => ("Rating", "-".to_string()),
-        Job::Write => ("Writing", "-".to_string()),
+    let length = match &row.case.job {
+        Job::Answer => m.length.to_string(),
+        Job::ShortRun(patterns) => patterns.len().to_string(),
+        Job::Rating(_) | Job::Read | Job::Write => "-".to_string(),
     };
     let other = |side| {
         m.of(side)
@@ -116,7 +125,7 @@ fn cells(row: &Row, m: &Measured) -> Vec<String> {
     };
     vec![
         row.family.clone(),
-        job.to_string(),
+        job_name(&row.case.job).to_string(),
         row.a.to_string(),
         row.f.to_string(),
         row.gates.to_string(),
@@ -172,6 +181,23 @@ fn rows_table(run: &mut Run, rows: &[Row]) -> Result<(String, Vec<Measured>), St
         all.push(measured);
     }
     Ok((table(&HEAD, &body), all))
+}
+
+/// The rows that have an aim, and whether it is met.
+fn aims(rows: &[Row], measured: &[Measured]) -> String {
+    let mut body = Vec::new();
+    for (row, m) in rows.iter().zip(measured) {
+        if let Some(aim) = row.aim {
+            let (ratio, lines) = (m.ratio(), 2 + row.gates + row.rules + row.wishes);
+            body.push(vec![
+                format!("{} of a sheet of {lines} lines", job_name(&row.case.job)),
+                format!("{ratio:.2}"),
+                format!("{aim:.1}"),
+                String::from(if ratio <= aim { "yes" } else { "NO" }),
+            ]);
+        }
+    }
+    table(&["call", "ratio", "to be at most", "met"], &body)
 }
 
 /// The middle, the lowest and the highest.
@@ -345,9 +371,9 @@ pub fn whole(quick: bool) -> Result<(), String> {
     let texts = agree(Form::Text, count)?;
     let tables = agree_on_tables(count)?;
     run.say(&format!(
-        "Before the timing, both sides gave the same outcomes on {sheets} generated sheets, a quarter of them damaged, and \
+        "Before the timing, both sides gave the same tables and outcomes on {sheets} generated sheets, a quarter of them damaged, and \
          on {texts} generated typed texts, four in ten of which are refused, and wrote {tables} generated tables alike, \
-         seven in ten of which are refused."
+         two in three of which are refused."
     ));
     run.say("");
 
@@ -417,10 +443,14 @@ pub fn whole(quick: bool) -> Result<(), String> {
         run.say("");
     }
 
-    let (family_table, _) = rows_table(&mut run, &families)?;
+    let (family_table, measured) = rows_table(&mut run, &families)?;
     run.say("## Families");
     run.say("");
     run.say(&family_table);
+    run.say("");
+    run.say("Aims:");
+    run.say("");
+    run.say(&aims(&families, &measured));
     run.say("");
 
     run.say("## How time grows");

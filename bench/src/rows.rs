@@ -15,6 +15,8 @@ pub struct Row {
     /// The sides besides the two that are always there.
     pub masks: bool,
     pub brute: bool,
+    /// The ratio that is aimed at, if there is one.
+    pub aim: Option<f64>,
 }
 
 impl Row {
@@ -33,6 +35,7 @@ impl Row {
             wishes: sheet.wishes,
             masks: false,
             brute: true,
+            aim: None,
         }
     }
 
@@ -51,9 +54,14 @@ impl Row {
     /// A typed text, and the rating of a plan that it does not have: refused after the reading, if
     /// the text itself is not.
     fn reading(family: &str, text: Sheet) -> Row {
-        let mut row = Row::new(family, text, Job::Rating(1 << 20)).no_brute();
-        row.case.typed = true;
-        row
+        Row::new(family, text, Job::Rating(1 << 20))
+            .no_brute()
+            .typed()
+    }
+
+    fn typed(mut self) -> Row {
+        self.case.typed = true;
+        self
     }
 
     fn masks(mut self) -> Row {
@@ -63,6 +71,11 @@ impl Row {
 
     fn no_brute(mut self) -> Row {
         self.brute = false;
+        self
+    }
+
+    fn aim(mut self, at_most: f64) -> Row {
+        self.aim = Some(at_most);
         self
     }
 
@@ -118,10 +131,20 @@ pub fn figure_empty() -> Row {
 
 pub fn families(quick: bool) -> Vec<Row> {
     let mut rows = vec![
-        Row::answer("smallest", sheets::empty(0, 0)),
+        Row::answer("smallest", sheets::empty(0, 0)).aim(2.0),
         Row::new("reading alone", sheets::full(1), Job::Rating(1 << 20)).no_brute(),
+        Row::new("reading into tables", sheets::empty(0, 0), Job::Read),
+        Row::new("reading into tables", sheets::lanes(1), Job::Read),
+        Row::new("reading into tables", sheets::full(1), Job::Read).aim(1.3),
+        Row::new(
+            "reading into tables, typed",
+            texts::accepted(16_384),
+            Job::Read,
+        )
+        .typed(),
+        Row::new("writing", sheets::empty(0, 0), Job::Write),
         Row::new("writing", sheets::lanes(1), Job::Write),
-        Row::new("writing", sheets::full(1), Job::Write),
+        Row::new("writing", sheets::full(1), Job::Write).aim(1.3),
         Row::reading("reading a typed text", texts::accepted(16_384)),
         Row::reading("typed text, refused with 5", texts::crowded(16_384)),
         Row::reading("typed text, refused with 12", texts::broken(16_384)),

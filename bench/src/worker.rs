@@ -9,9 +9,11 @@ use std::thread;
 use std::time::Duration;
 use std::{env, fs};
 
-use comzsered::figures::{self, Found, Rated, Written};
+use comzsered::figures::{self, Found, Rated, Read, Words, Written};
 use comzsered::Input;
-use planner_tests::writing::{self as second_writer, Tables};
+use planner_tests::oracle::{Refusal, Sheet};
+use planner_tests::tables::Tables;
+use planner_tests::writing as second_writer;
 use planner_tests::{brute, oracle, typed};
 
 use crate::{baseline, writing};
@@ -51,6 +53,8 @@ pub enum Job {
     Answer,
     ShortRun(Vec<u32>),
     Rating(u32),
+    /// Reading into tables: each side into those that it works with.
+    Read,
     /// Writing of the sheet's tables, which are made before the time is taken.
     Write,
 }
@@ -63,25 +67,32 @@ pub struct Case {
     pub bytes: Vec<u8>,
 }
 
-/// What a job gives, in the figures of the library.
+/// What a job gives, in the figures of the library; what was read as each side has it.
 enum Outcome {
     Found(Found),
     Rated(Rated),
+    /// The tables are those that were lent.
+    Read(Read),
+    ReadPlain(Result<baseline::Tables, baseline::Refusal>),
+    ReadSecond(Result<Sheet, Refusal>),
     Written(Written),
 }
 
 /// What the jobs are lent.
 struct Lent {
     list: Vec<u32>,
-    tables: Tables,
+    tables: Words,
     out: Vec<u8>,
 }
 
 impl Lent {
     fn new(case: &Case) -> Lent {
         let tables = match case.job {
-            Job::Write => Tables::of(&oracle::read(&case.bytes).expect("an accepted sheet")),
-            _ => Tables::default(),
+            Job::Write => {
+                let sheet = oracle::read(&case.bytes).expect("an accepted sheet");
+                Words::from(&Tables::of(&sheet))
+            }
+            _ => Words::EMPTY,
         };
         Lent {
             list: vec![0; comzsered::LIST_MAX],
@@ -89,6 +100,52 @@ impl Lent {
             out: vec![0; comzsered::SHEET_MAX],
         }
     }
+}
+
+impl Outcome {
+    /// The length of a list or a sheet, and all of the outcome in words.
+    fn told(self, lent: &Lent) -> (usize, String) {
+        match self {
+            Outcome::Found(x) => (x.length, format!("{x:?} {:?}", &lent.list[..x.length])),
+            Outcome::Rated(x) => (x.length, format!("{x:?}")),
+            Outcome::Read(x) => (0, told_read(ours(x, &lent.tables))),
+            Outcome::ReadPlain(x) => (0, told_read(plain(x))),
+            Outcome::ReadSecond(x) => (0, told_read(x.map(|sheet| Tables::of(&sheet)))),
+            Outcome::Written(x) => (x.length, format!("{x:?} {:?}", &lent.out[..x.length])),
+        }
+    }
+}
+
+/// What was read, in the tests' own types.
+pub type Taken = Result<Tables, Refusal>;
+
+pub fn ours(read: Read, tables: &Words) -> Taken {
+    match read {
+        Read { number: 0, .. } => Ok(Tables::from(tables)),
+        Read {
+            number,
+            place,
+            column,
+        } => Err(Refusal {
+            number,
+            place,
+            column,
+        }),
+    }
+}
+
+pub fn plain(read: Result<baseline::Tables, baseline::Refusal>) -> Taken {
+    let refusal = |(number, place, column)| Refusal {
+        number,
+        place,
+        column,
+    };
+    read.map(|tables| Tables::of(&tables.said()))
+        .map_err(refusal)
+}
+
+fn told_read(taken: Taken) -> String {
+    format!("{taken:?}")
 }
 
 // ---- the child
@@ -106,6 +163,7 @@ impl Case {
         match &self.job {
             Job::Answer => write!(out, "answer")?,
             Job::Rating(plan) => write!(out, "rating {plan}")?,
+            Job::Read => write!(out, "read")?,
             Job::Write => write!(out, "write")?,
             Job::ShortRun(patterns) => {
                 write!(out, "short")?;
@@ -128,6 +186,7 @@ impl Case {
         let job = match job.as_str() {
             "answer" => Job::Answer,
             "rating" => Job::Rating(*numbers.first()?),
+            "read" => Job::Read,
             "write" => Job::Write,
             _ => Job::ShortRun(numbers),
         };
@@ -153,21 +212,30 @@ fn work(side: Side, case: &Case, lent: &mut Lent) -> Outcome {
         (Job::Answer, Side::Ours) => Outcome::Found(figures::answer(input, list)),
         (Job::ShortRun(p), Side::Ours) => Outcome::Found(figures::short_run(input, p)),
         (Job::Rating(plan), Side::Ours) => Outcome::Rated(figures::rating(input, *plan)),
-        (Job::Write, Side::Ours) => {
-            Outcome::Written(figures::write(black_box(&writing::lent(tables)), out))
-        }
-        (Job::Write, Side::Brute) => Outcome::Written(write_brute(tables, out)),
+        (Job::Read, Side::Ours) => Outcome::Read(figures::read(input, tables)),
+        (Job::Write, Side::Ours) => Outcome::Written(figures::write(black_box(tables), out)),
+        (Job::Read, Side::Brute) => Outcome::ReadSecond(read_second(input)),
+        (Job::Write, Side::Brute) => Outcome::Written(write_second(tables, out)),
         (_, Side::Brute) => run_brute(&case.job, input, list),
         (Job::Answer, _) => Outcome::Found(baseline::answer(input, list, masks)),
         (Job::ShortRun(p), _) => Outcome::Found(baseline::short_run(input, p, masks)),
         (Job::Rating(plan), _) => Outcome::Rated(baseline::rating(input, *plan)),
-        (Job::Write, _) => Outcome::Written(writing::write(black_box(&writing::lent(tables)), out)),
+        (Job::Read, _) => Outcome::ReadPlain(baseline::read(input)),
+        (Job::Write, _) => Outcome::Written(writing::write(black_box(tables), out)),
+    }
+}
+
+/// The second readers of the tests.
+fn read_second(input: Input) -> Result<Sheet, Refusal> {
+    match input {
+        Input::Sheet(sheet) => oracle::read(sheet),
+        Input::Text(text) => typed::read(text),
     }
 }
 
 /// The second writer of the tests.
-fn write_brute(tables: &Tables, out: &mut [u8]) -> Written {
-    let x = second_writer::put(&second_writer::sheet(tables), out);
+fn write_second(tables: &Words, out: &mut [u8]) -> Written {
+    let x = second_writer::put(&second_writer::sheet(&Tables::from(tables)), out);
     Written {
         number: x.number,
         place: x.place,
@@ -187,11 +255,7 @@ fn run_brute(job: &Job, input: Input, list: &mut [u32]) -> Outcome {
             length: x.length,
         })
     };
-    let read = match input {
-        Input::Sheet(sheet) => oracle::read(sheet),
-        Input::Text(text) => typed::read(text),
-    };
-    let planner = brute::Planner::new(read.expect("an accepted sheet"));
+    let planner = brute::Planner::new(read_second(input).expect("an accepted sheet"));
     match job {
         Job::Answer => {
             let run = planner.run(list.len());
@@ -212,7 +276,7 @@ fn run_brute(job: &Job, input: Input, list: &mut [u32]) -> Outcome {
                 length: x.length,
             })
         }
-        Job::Write => unreachable!("no job of the planner"),
+        Job::Read | Job::Write => unreachable!("no job of the planner"),
     }
 }
 
@@ -263,11 +327,7 @@ pub fn serve(side: Side) -> Option<()> {
         }
         let outcome = work(side, &case, &mut lent);
         let nanos = processor_nanos() - start;
-        let (length, text) = match outcome {
-            Outcome::Found(x) => (x.length, format!("{x:?} {:?}", &lent.list[..x.length])),
-            Outcome::Rated(x) => (x.length, format!("{x:?}")),
-            Outcome::Written(x) => (x.length, format!("{x:?} {:?}", &lent.out[..x.length])),
-        };
+        let (length, text) = outcome.told(&lent);
         println!("{nanos} {} {length} {text}", peak());
     }
     Some(())

@@ -1,30 +1,11 @@
 //! The baseline of writing: tables as a sheet, in plain Rust, written for speed in the ordinary way.
 
-use comzsered::figures::Written;
-use comzsered::Tables;
+use comzsered::figures::{Words, Written};
 use planner_tests::oracle::{
     BAD_FIELD, BAD_SIZE, COLUMNS, LINE, MAX_FAULTS, MAX_GATES, MAX_RULES, MAX_SWITCHES, MAX_WISHES,
     TOO_MANY,
 };
-use planner_tests::writing::{self, TOO_SHORT};
-
-/// The tables of the tests, lent as the library takes them.
-pub fn lent(tables: &writing::Tables) -> Tables<'_> {
-    Tables {
-        switches: tables.switches,
-        faults: tables.faults,
-        gates: tables.gates,
-        rules: tables.rules,
-        wishes: tables.wishes,
-        kind: &tables.kind,
-        left: &tables.left,
-        right: &tables.right,
-        rule: &tables.rule,
-        first: &tables.first,
-        second: &tables.second,
-        third: &tables.third,
-    }
-}
+use planner_tests::writing::TOO_SHORT;
 
 fn refused(number: u32, place: usize) -> Written {
     Written {
@@ -35,7 +16,7 @@ fn refused(number: u32, place: usize) -> Written {
     }
 }
 
-pub fn write(t: &Tables, out: &mut [u8]) -> Written {
+pub fn write(t: &Words, out: &mut [u8]) -> Written {
     let lines = match test(t) {
         Ok(lines) => lines,
         Err((number, place)) => return refused(number, place),
@@ -55,14 +36,14 @@ pub fn write(t: &Tables, out: &mut [u8]) -> Written {
         }
     };
     put(b'H', [t.switches as i32, t.faults as i32, 0]);
-    for i in 0..t.gates as usize {
-        put(t.kind[i], [t.left[i] as i32, t.right[i] as i32, 0]);
+    for &[letter, left, right] in &t.gate[..t.gates as usize] {
+        put(letter as u8, [left as i32, right as i32, 0]);
     }
-    for i in 0..t.rules as usize {
-        put(b'R', [t.rule[i] as i32, 0, 0]);
+    for &rule in &t.rule[..t.rules as usize] {
+        put(b'R', [rule as i32, 0, 0]);
     }
-    for i in 0..t.wishes as usize {
-        put(b'W', [t.first[i], t.second[i], t.third[i]].map(literal));
+    for wish in &t.wish[..t.wishes as usize] {
+        put(b'W', wish.map(literal));
     }
     put(b'Z', [lines as i32 - 1, 0, 0]);
     Written {
@@ -74,13 +55,12 @@ pub fn write(t: &Tables, out: &mut [u8]) -> Written {
 }
 
 /// The lines of the sheet, or the number and the line of the first fault.
-fn test(t: &Tables) -> Result<usize, (u32, usize)> {
+fn test(t: &Words) -> Result<usize, (u32, usize)> {
     if t.switches > MAX_SWITCHES as u32 || t.faults > MAX_FAULTS as u32 {
         return Err((BAD_SIZE, 1));
     }
     let inputs = t.switches + t.faults;
     let mut line = 1;
-    let held = t.kind.len().min(t.left.len()).min(t.right.len());
     for i in 0..t.gates as usize {
         line += 1;
         if i == MAX_GATES {
@@ -88,14 +68,13 @@ fn test(t: &Tables) -> Result<usize, (u32, usize)> {
         }
         let before = inputs + i as u32;
         let point = |p: u32| 1 <= p && p <= before;
-        let right = i < held
-            && point(t.left[i])
-            && match t.kind[i] {
-                b'N' => t.right[i] == 0,
-                b'A' | b'O' => point(t.right[i]),
-                _ => false,
-            };
-        if !right {
+        let [letter, left, right] = t.gate[i];
+        let second = match u8::try_from(letter) {
+            Ok(b'N') => right == 0,
+            Ok(b'A' | b'O') => point(right),
+            _ => false,
+        };
+        if !(point(left) && second) {
             return Err((BAD_FIELD, line));
         }
     }
@@ -104,11 +83,10 @@ fn test(t: &Tables) -> Result<usize, (u32, usize)> {
         if i == MAX_RULES {
             return Err((TOO_MANY, line));
         }
-        if i >= t.rule.len() || t.rule[i] < 1 || t.rule[i] > inputs + t.gates {
+        if t.rule[i] < 1 || t.rule[i] > inputs + t.gates {
             return Err((BAD_FIELD, line));
         }
     }
-    let held = t.first.len().min(t.second.len()).min(t.third.len());
     for i in 0..t.wishes as usize {
         line += 1;
         if i == MAX_WISHES {
@@ -116,13 +94,12 @@ fn test(t: &Tables) -> Result<usize, (u32, usize)> {
         }
         // A literal may be missing only if those after it are.
         let there = |word: u32| 2 <= word && word <= 2 * t.switches + 1;
-        let right = i < held
-            && match (t.first[i], t.second[i], t.third[i]) {
-                (0, 0, 0) => true,
-                (x, 0, 0) => there(x),
-                (x, y, 0) => there(x) && there(y),
-                (x, y, z) => there(x) && there(y) && there(z),
-            };
+        let right = match t.wish[i] {
+            [0, 0, 0] => true,
+            [x, 0, 0] => there(x),
+            [x, y, 0] => there(x) && there(y),
+            [x, y, z] => there(x) && there(y) && there(z),
+        };
         if !right {
             return Err((BAD_FIELD, line));
         }
