@@ -10,9 +10,10 @@ use mathlib.Core.Path.{_≡_, refl, _∙_}
 use lib.Dec.{eqb, leb}
 use lib.ListN.{length, drop, length-drop}
 use lib.Seq.{drop-drop}
-use borrow.Author.Tests.{ne-eqb, leb-true}
+use borrow.Author.Tests.{ne-eqb}
 use Rattle.scope.specs.Parsing.{Slot, State, stuck, word, digits, second, numberDone, zeroOk, isDigit, move, step, atEnd, walk}
-use Rattle.scope.specs.laws.Tests.{clash, both}
+use Rattle.scope.specs.laws.Tests.{clash}
+use Rattle.scope.specs.laws.Reached.{digit-byte}
 use Rattle.scope.specs.laws.Walked.{number-plain}
 use Rattle.formula.specs.Look.{look, shared, standing, past}
 use Rattle.formula.specs.Tokens.{Came, rest, WordRead, NumberRead, NamedRead}
@@ -84,9 +85,6 @@ module _ (s w : List ℕ) (at : ℕ) (within : at ≤ length s) (long : 0 < leng
 
 -- ---- numbers
 
-pub digit-is : (b : ℕ) → isDigit b ≡ true → (code "0" ≤ b) × (b ≤ code "9")
-digit-is b h = let (l, m) = both (leb (code "0") b) (leb b (code "9")) h in (leb-true (code "0") b l, leb-true b (code "9") m)
-
 module _ (s : List ℕ) (zero : Bool) (at : ℕ) (within : at ≤ length s) (r : Token) where
   -- a zero ends the number, where it may stand
   pub number-zero : look s at ≡ code "0" → zero ≡ true → r ≡ record { bad = false; at = at + 1; value = 0 } → NumberRead s zero at r
@@ -117,7 +115,7 @@ module _ (s : List ℕ) (zero : Bool) (at : ℕ) (within : at ≤ length s) (r :
   module _ (e : look s at ≢ code "0") (a-digit : isDigit (look s at) ≡ true) where
     digit-read : (slot : Slot) → Came s (digits slot) at (second slot (look s at - code "0")) (at + 1)
     unfolding step move
-    digit-read slot = came s (digits slot) (second slot (look s at - code "0")) at (omega (arith, digit-is (look s at) a-digit)) (rw (ne-eqb (look s at) (code "0") e, a-digit))
+    digit-read slot = came s (digits slot) (second slot (look s at - code "0")) at (omega (arith, digit-byte (look s at) a-digit)) (rw (ne-eqb (look s at) (code "0") e, a-digit))
 
     -- a byte that is no digit moves on from a first digit as from a number that is complete
     pub number-one : isDigit (look s (at + 1)) ≡ false → r ≡ record { bad = false; at = at + 1; value = look s at - code "0" } → NumberRead s zero at r
@@ -128,7 +126,7 @@ module _ (s : List ℕ) (zero : Bool) (at : ℕ) (within : at ≤ length s) (r :
           let c : Came s (digits slot) at (second slot n) (at + 1) = digit-read slot in
           let (m, f) = number-plain slot n in
           record { ahead = c .ahead; within = c .within; walk = c .walk ∙ alike s (second slot n) (numberDone slot n) (at + 1) (rw (d, m (look s (at + 1)))) (rw f) };
-      few = omega (arith, digit-is (look s at) a-digit);
+      few = omega (arith, digit-byte (look s at) a-digit);
       bad = λ t. clash t refl;
     }
 
@@ -140,8 +138,8 @@ module _ (s : List ℕ) (zero : Bool) (at : ℕ) (within : at ≤ length s) (r :
           let n : ℕ = look s at - code "0" in
           let c : Came s (digits slot) at (second slot n) (at + 1) = digit-read slot in
           let k : at + 1 + 1 ≡ at + 2 = omega arith in
-          came-came c (rw k at (came s (second slot n) (numberDone slot (n * 10 + (look s (at + 1) - code "0"))) (at + 1) (omega (arith, digit-is (look s (at + 1)) d)) (rw d)));
-      few = omega (arith, digit-is (look s at) a-digit, digit-is (look s (at + 1)) d);
+          came-came c (rw k at (came s (second slot n) (numberDone slot (n * 10 + (look s (at + 1) - code "0"))) (at + 1) (omega (arith, digit-byte (look s (at + 1)) d)) (rw d)));
+      few = omega (arith, digit-byte (look s at) a-digit, digit-byte (look s (at + 1)) d);
       bad = λ t. clash t refl;
     }
 

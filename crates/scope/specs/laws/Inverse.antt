@@ -188,7 +188,7 @@ module _ (n : ℕ) (s : List ℕ) where
 
 -- ---- each kind of line passes where it may stand
 
-zeros-replicate : (k : ℕ) → zeros (replicate k (plus 0)) ≡ true
+pub zeros-replicate : (k : ℕ) → zeros (replicate k (plus 0)) ≡ true
 unfolding zeros
 zeros-replicate zero = refl
 zeros-replicate (suc k) = zeros-replicate k

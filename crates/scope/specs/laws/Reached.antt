@@ -50,7 +50,7 @@ wishes-snoc (u ∷ ws) w = ap (λ s. bytes "wish" ++ literalsBytes u ++ code "\n
 
 -- ---- a number's one or two digits
 
-digit-byte : (b : ℕ) → isDigit b ≡ true → (code "0" ≤ b) × (b ≤ code "9")
+pub digit-byte : (b : ℕ) → isDigit b ≡ true → (code "0" ≤ b) × (b ≤ code "9")
 digit-byte b e = let (p, q) = both (leb (code "0") b) (leb b (code "9")) e in (leb-true (code "0") b p, leb-true b (code "9") q)
 
 one-digit : (n : ℕ) → n ≤ 9 → numeral n ≡ digit n ∷ []

@@ -116,7 +116,7 @@ module _ (n : ℕ) (wide : 3 ≤ n) where
   gate-counted (Gate.and p q) = length-filled n (plus p ∷ plus q ∷ []) (omega arith)
   gate-counted (Gate.or p q) = length-filled n (plus p ∷ plus q ∷ []) (omega arith)
 
-  gate-made : (t : Sheet) (g : Gate) → make t (gateLine n g .letter) (gateLine n g .fields) ≡ addGate t g
+  pub gate-made : (t : Sheet) (g : Gate) → make t (gateLine n g .letter) (gateLine n g .fields) ≡ addGate t g
   unfolding make
   gate-made t (Gate.not p) = refl
   gate-made t (Gate.and p q) = refl

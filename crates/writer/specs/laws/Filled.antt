@@ -1,21 +1,15 @@
 -- A line's numbers filled up with zeros: a zero at the end changes nothing. Assumes nothing.
-use Prim.Native.Nat.{ℕ, zero, suc, _-_, _≤_, _<_}
+use Prim.Native.Nat.{ℕ, suc, _-_, _≤_, _<_}
 use native.Mathlib.Omega.{arith}
 use mathlib.Core.Bool.{Bool, true, false, cond}
 use mathlib.Core.List.{List, [], _∷_, _++_, append-assoc}
 use mathlib.Core.Path.{_≡_, refl, ap, _∙_}
 use lib.Dec.{eqb}
-use lib.ListN.{length, replicate}
+use lib.ListN.{length}
 use borrow.Author.Tests.{eqb-true}
 use Rattle.scope.specs.Sheet.{Number, plus, filled}
-use Rattle.scope.specs.Causes.{zeros}
 use Rattle.scope.specs.Words.{literalFrom, clauseOf}
 use Rattle.scope.specs.laws.Lists.{length-snoc}
-
-pub unused : (k : ℕ) → zeros (replicate k (plus 0)) ≡ true
-unfolding zeros
-unused zero = refl
-unused (suc k) = unused k
 
 module _ (n : ℕ) where
   pub zero-filled : (xs : List Number) → length xs < n → filled n (xs ++ plus 0 ∷ []) ≡ filled n xs

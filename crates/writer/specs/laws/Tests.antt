@@ -16,14 +16,15 @@ use Rattle.scope.specs.Causes.{clause, tests, started, addGate, make}
 use Rattle.scope.specs.Words.{wishSize, wishesFrom, word, gateAt, ruleAt, wishAt, held}
 use Rattle.scope.specs.Writing.{testsFrom, tableTests}
 use Rattle.scope.specs.laws.Lists.{length-snoc}
-use Rattle.scope.specs.laws.Writing.{length-lines}
+use Rattle.scope.specs.laws.Inverse.{zeros-replicate}
+use Rattle.scope.specs.laws.Writing.{length-lines, gate-made}
 use Rattle.words.specs.Tests.{Fault}
 use Rattle.writer.specs.Entries.{beforeEnd, LineOf}
 use Rattle.writer.specs.Tested.{named, testsOf, lineTests}
 use Rattle.writer.specs.Rows.{lineOf}
 use Rattle.writer.specs.declared.entries.Entry.{Entry}
 use Rattle.writer.specs.declared.entries.Entry.the-variants.{Head, Rule, Wish, End}
-use Rattle.writer.specs.laws.Filled.{unused, literals-filled}
+use Rattle.writer.specs.laws.Filled.{literals-filled}
 use Rattle.writer.specs.laws.Lines.{line-is}
 
 -- every line is of some entry
@@ -50,15 +51,9 @@ record SaidBy (u : List ℕ) (i : ℕ) (s : Sheet) : Type 0 where
 module _ (n : ℕ) (s : Sheet) where
   gate-tests : (k : ℕ) (g : Gate) → length (s .rules) ≡ 0 → length (s .wishes) ≡ 0 → tests s (suc k) false (gateLine n g .letter) (gateLine n g .fields) ≡ (3, true) ∷ (5, ltb (length (s .gates)) mostGates) ∷ (6, named (points s) g) ∷ []
   unfolding tests named
-  gate-tests k (not p) r w = rw (ne-eqb (suc k) 0 (λ e. omega arith), r, w, unused (n - 1), and-true)
-  gate-tests k (and p q) r w = rw (ne-eqb (suc k) 0 (λ e. omega arith), r, w, unused (n - 2), and-true)
-  gate-tests k (or p q) r w = rw (ne-eqb (suc k) 0 (λ e. omega arith), r, w, unused (n - 2), and-true)
-
-  gate-made : (g : Gate) → make s (gateLine n g .letter) (gateLine n g .fields) ≡ addGate s g
-  unfolding make
-  gate-made (not p) = refl
-  gate-made (and p q) = refl
-  gate-made (or p q) = refl
+  gate-tests k (not p) r w = rw (ne-eqb (suc k) 0 (λ e. omega arith), r, w, zeros-replicate (n - 1), and-true)
+  gate-tests k (and p q) r w = rw (ne-eqb (suc k) 0 (λ e. omega arith), r, w, zeros-replicate (n - 2), and-true)
+  gate-tests k (or p q) r w = rw (ne-eqb (suc k) 0 (λ e. omega arith), r, w, zeros-replicate (n - 2), and-true)
 
 module _ (n : ℕ) (wide : 3 ≤ n) (u : List ℕ) (i : ℕ) (s : Sheet) (q : SaidBy u i s) (h : suc i < beforeEnd u) where
   tested : (e : Entry) → LineOf u (suc i) e → tests s (suc i) false (lineOf n u e .letter) (lineOf n u e .fields) ≡ testsOf u e
@@ -71,16 +66,16 @@ module _ (n : ℕ) (wide : 3 ≤ n) (u : List ℕ) (i : ℕ) (s : Sheet) (q : Sa
       let g : length (s .gates) ≡ word u 2 = omega (arith, q .gates) in
       let r : length (s .rules) ≡ j = omega (arith, q .rules) in
       let w : length (s .wishes) ≡ 0 = omega (arith, q .wishes) in
-      rw (ne-eqb (suc i) 0 (λ e. omega arith), q .switches, q .faults, g, r, w, unused (n - 1), and-true)
+      rw (ne-eqb (suc i) 0 (λ e. omega arith), q .switches, q .faults, g, r, w, zeros-replicate (n - 1), and-true)
   tested (Wish j) (l, e) =
       let w : length (s .wishes) ≡ j = omega (arith, q .wishes) in
-      rw (ne-eqb (suc i) 0 (λ e. omega arith), q .switches, w, ← literals-filled n wide (word u (j * wishSize + wishesFrom)) (word u (j * wishSize + (wishesFrom + 1))) (word u (j * wishSize + (wishesFrom + 2))), unused (n - 3), and-true, and-true)
+      rw (ne-eqb (suc i) 0 (λ e. omega arith), q .switches, w, ← literals-filled n wide (word u (j * wishSize + wishesFrom)) (word u (j * wishSize + (wishesFrom + 1))) (word u (j * wishSize + (wishesFrom + 2))), zeros-replicate (n - 3), and-true, and-true)
   tested End e = absurd (omega arith)
 
   said-next : (e : Entry) → LineOf u (suc i) e → SaidBy u (suc i) (make s (lineOf n u e .letter) (lineOf n u e .fields))
   unfolding make
   said-next Head e = absurd (omega arith)
-  said-next (Entry.Gate j) (l, e) = rw (gate-made n s (gateAt u j)) (record { switches = q .switches; faults = q .faults; gates = omega (arith, length-snoc (s .gates) (gateAt u j), q .gates); rules = omega (arith, q .rules); wishes = omega (arith, q .wishes) })
+  said-next (Entry.Gate j) (l, e) = rw (gate-made n wide s (gateAt u j)) (record { switches = q .switches; faults = q .faults; gates = omega (arith, length-snoc (s .gates) (gateAt u j), q .gates); rules = omega (arith, q .rules); wishes = omega (arith, q .wishes) })
   said-next (Rule j) (l, e) = record { switches = q .switches; faults = q .faults; gates = omega (arith, q .gates); rules = omega (arith, length-snoc (s .rules) (ruleAt u j), q .rules); wishes = omega (arith, q .wishes) }
   said-next (Wish j) (l, e) = record { switches = q .switches; faults = q .faults; gates = omega (arith, q .gates); rules = omega (arith, q .rules); wishes = omega (arith, length-snoc (s .wishes) (clause (take mostLiterals (filled n (wishAt u j)))), q .wishes) }
   said-next End e = absurd (omega arith)
@@ -140,7 +135,7 @@ module _ (n : ℕ) (wide : 3 ≤ n) (u : List ℕ) where
 
   line-tests : (k : ℕ) (e : Entry) → LineOf u k e → lineTests n u k ≡ testsOf u e
   unfolding body testsFrom tests
-  line-tests k Head h = rw (h, unused (n - 2))
+  line-tests k Head h = rw (h, zeros-replicate (n - 2))
   line-tests k (Entry.Gate i) (l, h) = rw h (after-head i (omega arith) (Entry.Gate i) (l, refl))
   line-tests k (Rule i) (l, h) = rw h (after-head (word u 2 + i) (omega arith) (Rule i) (l, refl))
   line-tests k (Wish i) (l, h) = rw h (after-head (word u 2 + (word u 3 + i)) (omega arith) (Wish i) (l, refl))

@@ -2,7 +2,8 @@
 use mathlib.Core.Path.{refl, sym, _∙_}
 use native.Mathlib.Omega.{arith}
 use borrow.Author.Tests.{not-true, not-false}
-use Rattle.formula.specs.laws.Tokens.{digit-is, number-zero, number-no-zero, number-none, number-one, number-two}
+use Rattle.scope.specs.laws.Reached.{digit-byte}
+use Rattle.formula.specs.laws.Tokens.{number-zero, number-no-zero, number-none, number-one, number-two}
 use borrow.Author.Needs.{needs}
 use Rattle.formula.proofs.token.number_at.Statement.{statement}
 use Rattle.formula.proofs.token.number_at.Tie as tie
@@ -34,7 +35,7 @@ returns-3 c =
     number-none _ _ _ (c .before .before .before .before .before .before .pre) _ (λ z. c .before .before .before .if1 .left (e ∙ z)) (rw e at (sym (c .before .before .is-digit .ensures) ∙ not-true _ (c .before .if3 .taken))) (c .stuck2 .ensures)
 
 sub-n : tie.Need-sub-n
-sub-n c = omega (arith, digit-is (c .before .before .before .look .result) (sym (c .before .is-digit .ensures) ∙ not-false _ (c .if3 .left)))
+sub-n c = omega (arith, digit-byte (c .before .before .before .look .result) (sym (c .before .is-digit .ensures) ∙ not-false _ (c .if3 .left)))
 
 add-look : tie.Need-add-look
 add-look c = search needs
@@ -49,13 +50,13 @@ add-t13 : tie.Need-add-t13
 add-t13 c = search needs
 
 mul-t14 : tie.Need-mul-t14
-mul-t14 c = omega (arith, digit-is (c .before .before .before .before .before .before .look .result) (sym (c .before .before .before .before .is-digit .ensures) ∙ not-false _ (c .before .before .before .if3 .left)))
+mul-t14 c = omega (arith, digit-byte (c .before .before .before .before .before .before .look .result) (sym (c .before .before .before .before .is-digit .ensures) ∙ not-false _ (c .before .before .before .if3 .left)))
 
 sub-t15 : tie.Need-sub-t15
-sub-t15 c = omega (arith, digit-is (c .before .before .look2 .result) (sym (c .before .is-digit2 .ensures) ∙ c .if4 .taken))
+sub-t15 c = omega (arith, digit-byte (c .before .before .look2 .result) (sym (c .before .is-digit2 .ensures) ∙ c .if4 .taken))
 
 add-t16 : tie.Need-add-t16
-add-t16 c = omega (arith, digit-is (c .before .before .before .before .before .before .look .result) (sym (c .before .before .before .before .is-digit .ensures) ∙ not-false _ (c .before .before .before .if3 .left)), digit-is (c .before .before .look2 .result) (sym (c .before .is-digit2 .ensures) ∙ c .if4 .taken))
+add-t16 c = omega (arith, digit-byte (c .before .before .before .before .before .before .look .result) (sym (c .before .before .before .before .is-digit .ensures) ∙ not-false _ (c .before .before .before .if3 .left)), digit-byte (c .before .before .look2 .result) (sym (c .before .is-digit2 .ensures) ∙ c .if4 .taken))
 
 returns-4 : tie.Need-returns-4
 returns-4 c =
