@@ -152,6 +152,10 @@ words-hold = words.held-words
 pub words-fill : (t : Sheet) → Valid t → length (wordsOf t) ≡ wordCount
 words-fill t v = words.length-words t (v .few-gates) (v .few-rules) (v .few-wishes)
 
+-- every word that does not count is 0
+pub words-blank : (t : Sheet) → Valid t → (i : ℕ) → i < wordCount → ¬ Used (wordsOf t) i → word (wordsOf t) i ≡ 0
+words-blank = words.words-blank
+
 -- and those of a valid sheet that words hold are these words, up to their counts
 pub words-kept : (u : List ℕ) → Valid (held u) → (i : ℕ) → Used u i → word (wordsOf (held u)) i ≡ word u i
 words-kept u v i = words.words-kept u v

@@ -7,10 +7,10 @@ use mathlib.Core.Bool.{Bool, true, false, cond}
 use mathlib.Core.List.{List, [], _∷_, _++_, append-assoc, append-nil}
 use mathlib.Core.Logic.{_≢_}
 use mathlib.Core.Path.{_≡_, refl, sym, ap, ap₂, _∙_}
-use lib.Dec.{eqb}
-use lib.ListN.{length, getD, length-append, length-replicate, List·getD-append}
+use lib.Dec.{eqb, ltb, leb}
+use lib.ListN.{length, getD, replicate, length-append, length-replicate, getD-replicate, List·getD-append}
 use lib.Seq.{getD-append-add, ext-getD}
-use borrow.Author.Tests.{eqb-true, eqb-false, eq-eqb, ne-eqb}
+use borrow.Author.Tests.{eqb-true, eqb-false, eq-eqb, ne-eqb, ltb-true, ltb-false, leb-true, leb-false}
 use Rattle.scope.specs.Sheet.{Number, number, Clause, Gate, Sheet, points, mostGates, mostRules, mostWishes, Names, Wish, Valid}
 use Rattle.scope.specs.Words.{gateSize, wishSize, gatesFrom, rulesFrom, wishesFrom, wordCount, word, gateWords, noGate, gateOf, ruleWords, literalCode, literalAt, wishWords, literalFrom, clauseOf, entries, gateAt, ruleAt, wishAt, held, flat, room, wordsOf, Used, count, gate, rule, wish}
 use Rattle.scope.specs.laws.Alls.{all-at}
@@ -100,6 +100,16 @@ module _ {A : Type 0} (f : A → List ℕ) (k : ℕ) (sized : (a : A) → length
       let y : at ≡ length before + (i * k + j) = omega arith in
       rw (append-assoc, y, getD-append-add) (flat-at l d _ i j h b)
 
+  -- what stands in the room after its entries is 0
+  room-blank : (n : ℕ) (l : List A) (before after : List ℕ) (from : ℕ) → length before ≡ from → length l ≤ n → (at : ℕ) → from + length l * k ≤ at → at < from + n * k → word (before ++ (room f n k l ++ after)) at ≡ 0
+  unfolding room
+  room-blank n l before after from e h at i b =
+      let x : ℕ = at - (from + length l * k) in
+      let whole : length l + (n - length l) ≡ n = omega arith in
+      let few : x < (n - length l) * k = omega (arith, add-mul (length l) (n - length l) k, ap (λ m. m * k) whole) in
+      let y : at ≡ length before + (length (flat f l) + x) = omega (arith, length-flat l) in
+      rw (append-assoc, y, getD-append-add, getD-append-add, List·getD-append (replicate ((n - length l) * k) 0) after 0 x (omega (arith, length-replicate {A = ℕ} ((n - length l) * k) 0))) (getD-replicate ((n - length l) * k) x 0 0 few)
+
 -- ---- the words of a sheet
 
 module _ (t : Sheet) where
@@ -126,6 +136,13 @@ module _ (t : Sheet) where
     unfolding wordsOf
     length-words h = omega (arith, length-append gatesRoom (rulesRoom ++ wishesRoom), length-append rulesRoom wishesRoom, gates-size, rules-size, length-room wishWords wishSize wish-sized mostWishes (t .wishes) h)
 
+beyond : (n at : ℕ) → ¬ (at < n) → n ≤ at
+beyond n at h = go (leb n at) refl
+  where
+    go : (b : Bool) → leb n at ≡ b → n ≤ at
+    go true e = leb-true n at e
+    go false e = absurd (h (leb-false n at e))
+
 -- entries are a list that has the same length and the same elements
 same-entries : {A : Type 0} (f : ℕ → A) (d : A) (l : List A) → ((i : ℕ) → i < length l → f i ≡ getD l i d) → entries f (length l) ≡ l
 same-entries f d l h = ext-getD d (entries f (length l)) l (length-entries f (length l)) (λ i b. let c : i < length l = omega (arith, length-entries f (length l)) in entry-at f d (length l) i c ∙ h i c)
@@ -135,20 +152,22 @@ module _ (t : Sheet) (v : Valid t) where
   unfolding wordsOf
   gate-word i j h b = room-at gateWords gateSize gate-sized mostGates (t .gates) noGate (counts t) (rulesRoom t ++ wishesRoom t) gatesFrom refl i j (i * gateSize + (gatesFrom + j)) h b refl
 
+  before-rules : length (counts t ++ gatesRoom t) ≡ rulesFrom
+  before-rules = omega (arith, length-append (counts t) (gatesRoom t), gates-size t (v .few-gates) (v .few-rules))
+
+  before-wishes : length (counts t ++ gatesRoom t ++ rulesRoom t) ≡ wishesFrom
+  before-wishes = omega (arith, length-append (counts t ++ gatesRoom t) (rulesRoom t), before-rules, rules-size t (v .few-gates) (v .few-rules))
+
+  wishes-last : wordsOf t ≡ (counts t ++ gatesRoom t ++ rulesRoom t) ++ (wishesRoom t ++ [])
+  unfolding wordsOf
+  wishes-last = ap (λ r. counts t ++ r) (sym (append-assoc (gatesRoom t) (rulesRoom t) (wishesRoom t))) ∙ ap (λ r. (counts t ++ gatesRoom t ++ rulesRoom t) ++ r) (sym (append-nil (wishesRoom t)))
+
   pub rule-word : (i : ℕ) → i < length (t .rules) → word (wordsOf t) (i + rulesFrom) ≡ getD (t .rules) i 0
   unfolding wordsOf
-  rule-word i h =
-      let before : List ℕ = counts t ++ gatesRoom t in
-      let size : length before ≡ rulesFrom = omega (arith, length-append (counts t) (gatesRoom t), gates-size t (v .few-gates) (v .few-rules)) in
-      room-at ruleWords 1 rule-sized mostRules (t .rules) 0 before (wishesRoom t) rulesFrom size i 0 (i + rulesFrom) h (omega arith) (omega arith)
+  rule-word i h = room-at ruleWords 1 rule-sized mostRules (t .rules) 0 (counts t ++ gatesRoom t) (wishesRoom t) rulesFrom before-rules i 0 (i + rulesFrom) h (omega arith) (omega arith)
 
   pub wish-word : (i j : ℕ) → i < length (t .wishes) → j < wishSize → word (wordsOf t) (i * wishSize + (wishesFrom + j)) ≡ word (wishWords (getD (t .wishes) i [])) j
-  unfolding wordsOf
-  wish-word i j h b =
-      let before : List ℕ = counts t ++ gatesRoom t ++ rulesRoom t in
-      let size : length before ≡ wishesFrom = omega (arith, length-append (counts t ++ gatesRoom t) (rulesRoom t), length-append (counts t) (gatesRoom t), gates-size t (v .few-gates) (v .few-rules), rules-size t (v .few-gates) (v .few-rules)) in
-      let same : wordsOf t ≡ before ++ (wishesRoom t ++ []) = ap (λ r. counts t ++ r) (sym (append-assoc (gatesRoom t) (rulesRoom t) (wishesRoom t))) ∙ ap (λ r. before ++ r) (sym (append-nil (wishesRoom t))) in
-      ap (λ s. word s (i * wishSize + (wishesFrom + j))) same ∙ room-at wishWords wishSize wish-sized mostWishes (t .wishes) [] before [] wishesFrom size i j (i * wishSize + (wishesFrom + j)) h b refl
+  wish-word i j h b = ap (λ s. word s (i * wishSize + (wishesFrom + j))) wishes-last ∙ room-at wishWords wishSize wish-sized mostWishes (t .wishes) [] (counts t ++ gatesRoom t ++ rulesRoom t) [] wishesFrom before-wishes i j (i * wishSize + (wishesFrom + j)) h b refl
 
   gates-held : entries (gateAt (wordsOf t)) (length (t .gates)) ≡ t .gates
   gates-held = same-entries (gateAt (wordsOf t)) noGate (t .gates) (λ i h. rw (gate-word i 0 h (omega arith), gate-word i 1 h (omega arith), gate-word i 2 h (omega arith)) (gate-back (getD (t .gates) i noGate)))
@@ -162,6 +181,39 @@ module _ (t : Sheet) (v : Valid t) where
   pub held-words : held (wordsOf t) ≡ t
   unfolding wordsOf
   held-words = rw (gates-held, rules-held, wishes-held)
+
+  -- a word that does not count stands after the entries of its room
+  module _ (at : ℕ) (inside : at < wordCount) (unused : ¬ Used (wordsOf t) at) where
+    after-gates : gatesFrom ≤ at → gatesFrom + length (t .gates) * gateSize ≤ at
+    unfolding wordsOf
+    after-gates l = beyond _ at λ h.
+        let same : (at - gatesFrom) / gateSize * gateSize + (gatesFrom + (at - gatesFrom) % gateSize) ≡ at = omega arith in
+        let counts : Used (wordsOf t) ((at - gatesFrom) / gateSize * gateSize + (gatesFrom + (at - gatesFrom) % gateSize)) = gate (omega arith) (omega arith) in
+        unused (rw same at counts)
+
+    after-rules : rulesFrom ≤ at → rulesFrom + length (t .rules) * 1 ≤ at
+    unfolding wordsOf
+    after-rules l = beyond _ at λ h.
+        let same : at - rulesFrom + rulesFrom ≡ at = omega arith in
+        let counts : Used (wordsOf t) (at - rulesFrom + rulesFrom) = rule (omega arith) in
+        unused (rw same at counts)
+
+    after-wishes : wishesFrom ≤ at → wishesFrom + length (t .wishes) * wishSize ≤ at
+    unfolding wordsOf
+    after-wishes l = beyond _ at λ h.
+        let same : (at - wishesFrom) / wishSize * wishSize + (wishesFrom + (at - wishesFrom) % wishSize) ≡ at = omega arith in
+        let counts : Used (wordsOf t) ((at - wishesFrom) / wishSize * wishSize + (wishesFrom + (at - wishesFrom) % wishSize)) = wish (omega arith) (omega arith) in
+        unused (rw same at counts)
+
+    pub words-blank : word (wordsOf t) at ≡ 0
+    unfolding wordsOf
+    words-blank = go (ltb at gatesFrom) (ltb at rulesFrom) (ltb at wishesFrom) refl refl refl
+      where
+        go : (counts-there gates-there rules-there : Bool) → ltb at gatesFrom ≡ counts-there → ltb at rulesFrom ≡ gates-there → ltb at wishesFrom ≡ rules-there → word (wordsOf t) at ≡ 0
+        go true g r d e f = absurd (unused (count (ltb-true _ _ d)))
+        go false true r d e f = room-blank gateWords gateSize gate-sized mostGates (t .gates) (counts t) (rulesRoom t ++ wishesRoom t) gatesFrom refl (v .few-gates) at (after-gates (ltb-false _ _ d)) (omega (arith, ltb-true at rulesFrom e))
+        go false false true d e f = room-blank ruleWords 1 rule-sized mostRules (t .rules) (counts t ++ gatesRoom t) (wishesRoom t) rulesFrom before-rules (v .few-rules) at (after-rules (ltb-false _ _ e)) (omega (arith, ltb-true at wishesFrom f))
+        go false false false d e f = ap (λ s. word s at) wishes-last ∙ room-blank wishWords wishSize wish-sized mostWishes (t .wishes) (counts t ++ gatesRoom t ++ rulesRoom t) [] wishesFrom before-wishes (v .few-wishes) at (after-wishes (ltb-false _ _ f)) (omega arith)
 
 -- ---- and the words of a valid sheet that words hold are those, up to their counts
 
