@@ -19,10 +19,7 @@ pub mod Program
 pub mod Reading
 pub mod Parsing
 pub mod Checking
--- what is claimed of all this, and examples
+-- what is claimed of all this
 pub mod Claims
-pub mod Examples
-pub mod TypedExamples
-pub mod WritingExamples
 -- proved of them
 pub mod laws
