@@ -212,10 +212,6 @@ prints() { # PROGRAM FILE
     diff "$2" "$work/printed"
 }
 
-in_folder() { # FOLDER COMMAND...
-    (cd "$1" && shift && "$@")
-}
-
 # An example that takes no file.
 prints_alone() { # PROGRAM FILE
     limited 60 "$1" >"$work/printed" 2>&1
@@ -231,22 +227,19 @@ one_test "the C example answer" prints "$work/answer" examples/c/answer.expected
 one_test "the C example write" prints_alone "$work/write" examples/c/write.expected
 one_test "the C example edit" prints_alone "$work/edit" examples/c/edit.expected
 
-bindings=$root/target/bindings
-one_test "the Rust example is built" in_folder bindings/rust \
-    cargo build --offline --locked --target-dir "$bindings" --example answer
+built=$root/target/cargo
+one_test "the Rust example is built" cargo build --locked --package comzsered --example answer
 one_test "the Rust example" \
-    prints "$bindings/debug/examples/answer" bindings/rust/examples/answer.expected
+    prints "$built/debug/examples/answer" bindings/rust/examples/answer.expected
 
 # ---- the binding
 
-cargo_tests "cargo test of bindings/rust" in_folder bindings/rust \
-    cargo test --offline --locked --target-dir "$bindings"
+cargo_tests "cargo test of bindings/rust" cargo test --locked --package comzsered
 
 # ---- the comparisons
 
-built=$root/target/tests
-one_test "the comparisons are built" in_folder tests \
-    cargo build --release --offline --locked --target-dir "$built" --features library
+one_test "the comparisons are built" \
+    cargo build --release --locked --package planner-tests --features library
 if [ "$status" -ne 0 ]; then
     fail "the comparisons were not run, as they were not built"
     finish
