@@ -1,4 +1,5 @@
-// What the programs print, over what any reader told.
+// What the programs print, over what any reader told: the listing of Answer's outcome, or the sheet that a text stands for. It rests on
+// `jobs` for the outcome, and on `listing` and `writer` for its bytes.
 use jobs::answer::answer;
 use jobs::outcome::Outcome;
 use jobs::outcome::refused;
@@ -18,7 +19,7 @@ ghost use Rattle.scope.specs.Source.{Source};
 ghost use Rattle.scope.specs.Program.{third, listingResult, listingOf, convertedOf};
 ghost use Rattle.words.specs.Told.{told};
 ghost use Rattle.jobs.specs.Figures.{resultOf};
-ghost use Rattle.planner.specs.Steps.{Printable, shownOf};
+ghost use Rattle.output.specs.Steps.{Printable, shownOf};
 
 // The bytes of the longest sheet.
 const MOST_SHEET: usize = 9010;

@@ -1,26 +1,11 @@
 -- What steps of the code give: in no promise of an exported call. Assumes nothing.
-use Prim.Native.Nat.{ℕ, _<_}
+use Prim.Native.Nat.{ℕ}
 use mathlib.Core.List.{List}
 use mathlib.Core.Logic.{_≢_}
 use mathlib.Core.Path.{_≡_}
-use lib.Dec.{eqb}
-use Rattle.scope.specs.Jobs.{Result}
-use Rattle.scope.specs.Program.{third}
 use Rattle.words.specs.declared.refusal.Cause.{Cause}
-use Rattle.listing.specs.declared.whole.Shown.{Shown}
-use Rattle.listing.specs.Rows.{fieldEnd}
 
 -- the words stand in the lent ones, or these are as they were
 pub record Handed (c : Cause) (words before after : List ℕ) : Type 0 where
   pub filled : c .number ≡ 0 → after ≡ words
   pub kept : c .number ≢ 0 → after ≡ before
-
--- the figures of the A line fit their fields
-pub record Printable (r : Result) : Type 0 where
-  pub number : r .number < fieldEnd
-  pub place : r .place < fieldEnd
-  pub figure : third r < fieldEnd
-
--- what the listing shows of a result
-abbrev pub shownOf : Result → Shown
-shownOf r = record { number = r .number; place = r .place; figure = third r; found = eqb (r .number) 0; plan = record { 0 = r .plan } }

@@ -1,3 +1,1 @@
-pub mod Listing
-pub mod Converted
 pub mod Reads

@@ -1,9 +1,9 @@
 // The jobs for a fixed-column sheet: each reads it into words and hands these on.
-use crate::print::put_output;
 use crate::read::hand_over;
 use jobs::outcome::Outcome;
 use jobs::outcome::PairRuns;
 use jobs::outcome::Rating;
+use output::put_output;
 use words::Plan;
 use words::WORDS;
 use words::Words;

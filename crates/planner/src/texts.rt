@@ -1,10 +1,10 @@
 // The jobs for a typed text: each reads it into words and hands these on.
-use crate::print::put_output;
-use crate::print::put_sheet;
 use crate::read::hand_over;
 use jobs::outcome::Outcome;
 use jobs::outcome::PairRuns;
 use jobs::outcome::Rating;
+use output::put_output;
+use output::put_sheet;
 use words::Plan;
 use words::WORDS;
 use words::Words;

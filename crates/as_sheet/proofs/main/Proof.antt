@@ -2,7 +2,7 @@
 -- Assumes nothing.
 use mathlib.Core.Path.{sym}
 use lib.Seq.{length-take-le}
-use Rattle.planner.specs.laws.Converted.{sheet-fits}
+use Rattle.output.specs.laws.Converted.{sheet-fits}
 use borrow.Author.Needs.{needs}
 use Rattle.as_sheet.proofs.main.Statement.{statement}
 use Rattle.as_sheet.proofs.main.Tie as tie

@@ -1,8 +1,8 @@
 -- `print::figure` meets its contract: by whether the number is that of a malformed line.
 -- Assumes nothing.
 use borrow.Author.Tests.{eq-eqb, ne-eqb}
-use Rattle.planner.proofs.print.figure.Statement.{statement}
-use Rattle.planner.proofs.print.figure.Tie as tie
+use Rattle.output.proofs.figure.Statement.{statement}
+use Rattle.output.proofs.figure.Tie as tie
 
 narrow-requires : tie.Need-narrow-requires
 narrow-requires c κs = rw (eq-eqb (c .before .before .args .o .number) 2 (c .if1 .taken)) at (c .before .before .pre)

@@ -6,9 +6,9 @@ use lib.ListN.{length, take}
 use lib.Seq.{length-take-le}
 use borrow.Author.Needs.{needs}
 use Rattle.words.specs.Told.{told}
-use Rattle.planner.specs.laws.Listing.{not-listed, wrote-listing, printable, length-small, words-small, found-valid, rows-few, rows-are}
-use Rattle.planner.proofs.print.put_output.Statement.{statement}
-use Rattle.planner.proofs.print.put_output.Tie as tie
+use Rattle.output.specs.laws.Listing.{not-listed, wrote-listing, printable, length-small, words-small, found-valid, rows-few, rows-are}
+use Rattle.output.proofs.put_output.Statement.{statement}
+use Rattle.output.proofs.put_output.Tie as tie
 
 returns : tie.Need-returns
 returns c = not-listed _ _ (c .if1 .taken)

@@ -4,10 +4,10 @@ use mathlib.Core.List.{[]}
 use borrow.Author.Needs.{needs}
 use Rattle.scope.specs.Jobs.{Result}
 use Rattle.jobs.specs.Figures.{resultOf}
-use Rattle.planner.specs.laws.Listing.{printable, found-valid, rows-few}
-use Rattle.planner.specs.laws.Converted.{not-converted, refused-answer, refused-rows, converted-written, converted-listed}
-use Rattle.planner.proofs.print.put_sheet.Statement.{statement}
-use Rattle.planner.proofs.print.put_sheet.Tie as tie
+use Rattle.output.specs.laws.Listing.{printable, found-valid, rows-few}
+use Rattle.output.specs.laws.Converted.{not-converted, refused-answer, refused-rows, converted-written, converted-listed}
+use Rattle.output.proofs.put_sheet.Statement.{statement}
+use Rattle.output.proofs.put_sheet.Tie as tie
 
 returns : tie.Need-returns
 returns c = not-converted _ _ (c .if1 .taken)

@@ -1,8 +1,8 @@
 -- Each figure is that of the outcome; place and third fit their fields.
 use native.Mathlib.Omega.{arith}
 use borrow.Author.Needs.{needs}
-use Rattle.planner.proofs.print.shown.Statement.{statement}
-use Rattle.planner.proofs.print.shown.Tie as tie
+use Rattle.output.proofs.shown.Statement.{statement}
+use Rattle.output.proofs.shown.Tie as tie
 
 narrow-requires : tie.Need-narrow-requires
 narrow-requires c κs = c .pre .place

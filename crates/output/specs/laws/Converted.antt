@@ -22,8 +22,8 @@ use Rattle.listing.specs.Listing.{listingRows}
 use Rattle.jobs.specs.declared.outcome.Outcome.{Outcome}
 use Rattle.jobs.specs.Figures.{resultOf, answerFrom}
 use Rattle.jobs.specs.laws.Jobs.{reads, reads-valid, is-refused, answer-refused}
-use Rattle.planner.specs.Steps.{shownOf}
-use Rattle.planner.specs.laws.Listing.{left-alone, wrote-placed, placed-within, rows-are}
+use Rattle.output.specs.Steps.{shownOf}
+use Rattle.output.specs.laws.Listing.{left-alone, wrote-placed, placed-within, rows-are}
 
 -- a buffer that may be too short is left alone
 pub not-converted : (r : Read) (out : List ℕ) → length out < mostBytes fieldCount → listingResult 0 out ≡ convertedOf r out

@@ -26,7 +26,7 @@ use Rattle.listing.specs.laws.Listing.{plan-few}
 use Rattle.jobs.specs.declared.outcome.Outcome.{Outcome}
 use Rattle.jobs.specs.Figures.{resultOf, answerFrom}
 use Rattle.jobs.specs.laws.Jobs.{reads, reads-valid, is-refused}
-use Rattle.planner.specs.Steps.{Printable, shownOf}
+use Rattle.output.specs.Steps.{Printable, shownOf}
 
 -- ---- what is put into a buffer, or left alone where that may be too short
 

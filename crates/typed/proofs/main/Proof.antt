@@ -2,7 +2,7 @@
 -- Assumes nothing.
 use mathlib.Core.Path.{sym}
 use lib.Seq.{length-take-le}
-use Rattle.planner.specs.laws.Listing.{listing-fits}
+use Rattle.output.specs.laws.Listing.{listing-fits}
 use borrow.Author.Needs.{needs}
 use Rattle.typed.proofs.main.Statement.{statement}
 use Rattle.typed.proofs.main.Tie as tie
