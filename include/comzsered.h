@@ -69,7 +69,8 @@
  * The number
  *
  *   All calls but listing return a number, and write a place and a column. All three are 0 when the
- *   job is done. Lines, columns and bytes are counted from 1.
+ *   job is done. The enum comzsered_number names the numbers. Lines, columns and bytes are counted
+ *   from 1.
  *
  *    number  cause                                                              place
  *    ------  -----------------------------------------------------------------  ----------------
@@ -138,6 +139,31 @@
 #ifdef __cplusplus
 extern "C" {
 #endif
+
+/* The version: 0, then the change requests that have landed, then the landings since the last of
+   them. */
+#define COMZSERED_VERSION_MAJOR 0
+#define COMZSERED_VERSION_MINOR 4
+#define COMZSERED_VERSION_PATCH 2
+#define COMZSERED_VERSION "0.4.2"
+
+/* The numbers of the table above. The calls return them as uint32_t. */
+typedef enum comzsered_number {
+    COMZSERED_DONE = 0,
+    COMZSERED_BAD_LENGTH = 1,
+    COMZSERED_MALFORMED = 2,
+    COMZSERED_BAD_ORDER = 3,
+    COMZSERED_OUT_OF_RANGE = 4,
+    COMZSERED_OVER_LIMIT = 5,
+    COMZSERED_BAD_FIELD = 6,
+    COMZSERED_BAD_COUNT = 7,
+    COMZSERED_NO_PLAN = 8,
+    COMZSERED_NO_ROOM = 9,
+    COMZSERED_HIGH_PLAN = 10,
+    COMZSERED_HIGH_PATTERN = 11,
+    COMZSERED_ILLEGAL_TEXT = 12,
+    COMZSERED_SHORT_BUFFER = 13
+} comzsered_number;
 
 /* As many of each as there may be. */
 #define COMZSERED_SWITCHES_MAX 20

@@ -232,10 +232,10 @@ fn stack_row(name: &str, ours: usize, plain: Option<usize>) -> Vec<String> {
 fn rating_stack(name: &str, sheet: &Sheet) -> Vec<String> {
     let (plan, for_ours, for_plain) = (sheet.plan, sheet.bytes.clone(), sheet.bytes.clone());
     let ours = stack::used(move || {
-        black_box(figures::rating(&for_ours, plan));
+        black_box(figures::rating(Input::Sheet(&for_ours), plan));
     });
     let plain = stack::used(move || {
-        black_box(baseline::rating(&for_plain, plan));
+        black_box(baseline::rating(Input::Sheet(&for_plain), plan));
     });
     stack_row(name, ours, Some(plain))
 }
@@ -257,10 +257,14 @@ fn answer_stack(name: &str, sheet: &Sheet) -> Vec<String> {
     let mut ours_list = vec![0; comzsered::LIST_MAX];
     let mut plain_list = ours_list.clone();
     let ours = stack::used(move || {
-        black_box(figures::answer(&for_ours, &mut ours_list));
+        black_box(figures::answer(Input::Sheet(&for_ours), &mut ours_list));
     });
     let plain = stack::used(move || {
-        black_box(baseline::answer(&for_plain, &mut plain_list, false));
+        black_box(baseline::answer(
+            Input::Sheet(&for_plain),
+            &mut plain_list,
+            false,
+        ));
     });
     stack_row(name, ours, Some(plain))
 }
@@ -268,10 +272,14 @@ fn answer_stack(name: &str, sheet: &Sheet) -> Vec<String> {
 fn short_run_stack(name: &str, sheet: &Sheet) -> Vec<String> {
     let (for_ours, for_plain) = (sheet.bytes.clone(), sheet.bytes.clone());
     let ours = stack::used(move || {
-        black_box(figures::short_run(&for_ours, &[0, 1, 2]));
+        black_box(figures::short_run(Input::Sheet(&for_ours), &[0, 1, 2]));
     });
     let plain = stack::used(move || {
-        black_box(baseline::short_run(&for_plain, &[0, 1, 2], false));
+        black_box(baseline::short_run(
+            Input::Sheet(&for_plain),
+            &[0, 1, 2],
+            false,
+        ));
     });
     stack_row(name, ours, Some(plain))
 }
@@ -280,7 +288,7 @@ fn listing_stack(name: &str, sheet: &Sheet) -> Vec<String> {
     let sheet = sheet.bytes.clone();
     let mut out = vec![0; comzsered::LISTING_MAX];
     let ours = stack::used(move || {
-        black_box(figures::listing(&sheet, &mut out));
+        black_box(figures::listing(Input::Sheet(&sheet), &mut out));
     });
     stack_row(name, ours, None)
 }

@@ -46,7 +46,7 @@ impl Row {
     /// The rating of the plan that the sheet makes sound.
     fn rating(family: &str, sheet: Sheet) -> Row {
         let plan = sheet.plan;
-        let rated = comzsered::figures::rating(&sheet.bytes, plan);
+        let rated = comzsered::figures::rating(comzsered::Sheet(&sheet.bytes), plan);
         assert_eq!((rated.number, rated.sound), (0, 1), "the plan is not sound");
         Row::new(family, sheet, Job::Rating(plan))
     }

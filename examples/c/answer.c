@@ -115,14 +115,14 @@ int main(int argc, char **argv)
         number = comzsered_answer(input, input_len, list, COMZSERED_LIST_MAX, &place, &column,
                                   &plan, &cost, &length);
     }
-    if (number == 0) {
+    if (number == COMZSERED_DONE) {
         print_plan(plan, cost, tables.switches);
-    } else if (number == 8) {
+    } else if (number == COMZSERED_NO_PLAN) {
         printf("No plan passes every pattern.\n");
     } else {
         /* The table in comzsered.h says what the number means. */
         printf("Refused: number %lu, place %lu", (unsigned long)number, (unsigned long)place);
-        if (number == 2)
+        if (number == COMZSERED_MALFORMED)
             printf(", column %lu", (unsigned long)column);
         printf("\n");
         return 1;

@@ -19,6 +19,9 @@ static const char text[] =
     "wish !s1\n"
     "wish !s2\n";
 
+/* The bytes of a sheet's line. */
+#define LINE 17
+
 /* Room for any sheet. */
 static uint8_t sheet[COMZSERED_SHEET_MAX];
 
@@ -41,7 +44,7 @@ int main(void)
     uint32_t number, both;
 
     number = comzsered_text_read((const uint8_t *)text, sizeof text - 1, &tables, &place, &column);
-    if (number != 0)
+    if (number != COMZSERED_DONE)
         return 1;
     printf("The text has %lu gates, %lu rules and %lu wishes.\n", (unsigned long)tables.gates,
            (unsigned long)tables.rules, (unsigned long)tables.wishes);
@@ -51,18 +54,20 @@ int main(void)
     tables.rule[tables.rules++] = add_gate('N', both, 0);
     tables.wish[tables.wishes++][0] = COMZSERED_ON(1);
 
-    if (comzsered_write(&tables, sheet, sizeof sheet, &place, &column, &length) != 0)
+    number = comzsered_write(&tables, sheet, sizeof sheet, &place, &column, &length);
+    if (number != COMZSERED_DONE)
         return 1;
     printf("With one more rule and one more wish it is this sheet:\n");
     fwrite(sheet, 1, length, stdout);
 
-    if (comzsered_read(sheet, length, &again, &place, &column) != 0)
+    number = comzsered_read(sheet, length, &again, &place, &column);
+    if (number != COMZSERED_DONE)
         return 1;
     printf("Read again it gives %s tables.\n",
            memcmp(&tables, &again, sizeof tables) == 0 ? "the same" : "other");
 
     /* Without its last line it is refused, and the tables stay as they are. */
-    number = comzsered_read(sheet, length - 17, &again, &place, &column);
+    number = comzsered_read(sheet, length - LINE, &again, &place, &column);
     printf("Without its last line: number %lu, line %lu, and %s tables.\n", (unsigned long)number,
            (unsigned long)place,
            memcmp(&tables, &again, sizeof tables) == 0 ? "the same" : "other");

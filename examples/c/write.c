@@ -37,7 +37,7 @@ static size_t show(const char *title, size_t room)
 
     printf("%s\n", title);
     number = comzsered_write(&tables, sheet, room, &place, &column, &length);
-    if (number != 0) {
+    if (number != COMZSERED_DONE) {
         /* The table in comzsered.h says what the number means. */
         printf("Refused: number %lu, place %lu\n", (unsigned long)number, (unsigned long)place);
         return length;

@@ -14,6 +14,7 @@ use std::process::ExitCode;
 use std::time::{Duration, Instant};
 
 use comzsered::figures::{self, Words};
+use comzsered::Sheet;
 use planner_tests::brute::{NO_PLAN, NO_ROOM};
 use planner_tests::generate::Random;
 use planner_tests::options::{ended, misused, Options};
@@ -215,7 +216,7 @@ fn round_trip(made: &Made, words: &Words, total: &mut Total) -> Option<String> {
         return Some(format!("what was written is read as {read:?}"));
     }
     let mut again = words.clone();
-    let read = figures::read(bytes, &mut again);
+    let read = figures::read(Sheet(bytes), &mut again);
     if read.number != 0 || Tables::from(&again) != Tables::of(&said) {
         return Some(format!(
             "the library reads what it wrote as {again:?}: {read:?}"
@@ -223,7 +224,7 @@ fn round_trip(made: &Made, words: &Words, total: &mut Total) -> Option<String> {
     }
     if light(&said) && said.switches + said.faults <= ANSWERED {
         total.answered += 1;
-        let found = figures::answer(bytes, &mut [0; 4]);
+        let found = figures::answer(Sheet(bytes), &mut [0; 4]);
         if ![0, NO_PLAN, NO_ROOM].contains(&found.number) {
             return Some(format!("an answer of what was written: {found:?}"));
         }

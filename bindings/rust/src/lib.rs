@@ -20,9 +20,9 @@
 //! off:
 //!
 //! ```
-//! use comzsered::{answer, Answer, Plan};
+//! use comzsered::{answer, Answer, Plan, Sheet};
 //!
-//! let sheet = b"\
+//! let sheet = Sheet(b"\
 //! H    2    2    0\n\
 //! O    1    2    0\n\
 //! O    3    4    0\n\
@@ -30,7 +30,7 @@
 //! R    7    0    0\n\
 //! W   -1    0    0\n\
 //! W   -2    0    0\n\
-//! Z    7    0    0\n";
+//! Z    7    0    0\n");
 //!
 //! let mut list = [0; 16];
 //! match answer(sheet, &mut list) {
@@ -46,12 +46,12 @@
 //! }
 //! ```
 //!
-//! This is the same sheet as a typed text. Every function takes either, and bytes alone are a sheet:
+//! This is the same sheet as a typed text. Every function takes either:
 //!
 //! ```
-//! use comzsered::{answer, Answer, Input, Plan};
+//! use comzsered::{answer, Answer, Plan, Text};
 //!
-//! let text = Input::Text(b"\
+//! let text = Text(b"\
 //! switches 2\n\
 //! faults 2\n\
 //! rule (s1|s2)|(f1|f2)\n\
@@ -65,28 +65,39 @@
 //! The time that the jobs take grows with the number of plans and patterns, so a sheet with many
 //! switches and faults may take very long. Any bytes may be passed as a sheet or text: wrong ones are
 //! refused.
-
-use std::fmt;
+//!
+//! # How to depend on it
+//!
+//! ```toml
+//! [dependencies]
+//! comzsered = { path = "../comzsered/bindings/rust" }
+//! ```
+//!
+//! The path leads into a copy of the repository. There `rt staticlib planner` builds the proved library,
+//! `target/staticlib/libplanner.a`, and the build script of this crate has it linked. If the archive lies
+//! elsewhere, name its folder:
+//!
+//! ```sh
+//! COMZSERED_LIB_DIR=lib cargo build
+//! ```
+//!
+//! A relative folder is taken from where you stand. To name it once for all builds of a package, write
+//! this into the package's `.cargo/config.toml`; then it is taken from the package's folder:
+//!
+//! ```toml
+//! [env]
+//! COMZSERED_LIB_DIR = { value = "lib", relative = true }
+//! ```
 
 pub mod figures;
+mod input;
+mod refusal;
 mod tables;
 
 use figures::{Found, Rated, Words};
+pub use input::{Input, Sheet, Text};
+pub use refusal::{Cause, Refusal};
 pub use tables::{Gate, Literal, Point, Tables, Wish};
-
-/// What the jobs are done for: a planning sheet, or a typed text that stands for one.
-#[derive(Clone, Copy, Debug, PartialEq, Eq)]
-pub enum Input<'a> {
-    Sheet(&'a [u8]),
-    Text(&'a [u8]),
-}
-
-/// Bytes that are not said to be a text are a sheet.
-impl<'a, T: AsRef<[u8]> + ?Sized> From<&'a T> for Input<'a> {
-    fn from(sheet: &'a T) -> Input<'a> {
-        Input::Sheet(sheet.as_ref())
-    }
-}
 
 /// The gates, rules and wishes of a sheet at most.
 pub const GATES_MAX: usize = 400;
@@ -94,7 +105,7 @@ pub const RULES_MAX: usize = 64;
 pub const WISHES_MAX: usize = 64;
 /// The literals of a wish at most.
 pub const LITERALS_MAX: usize = 3;
-/// The bytes of the longest sheet. With so many, no writing ends in refusal 13.
+/// The bytes of the longest sheet. With so many, no writing ends in [`Cause::ShortBuffer`].
 pub const SHEET_MAX: usize = 9_010;
 /// The bytes of the longest typed text.
 pub const TEXT_MAX: usize = 16_384;
@@ -140,102 +151,10 @@ fn digit(number: u32, k: u32, digits: u32) -> bool {
     number >> (digits - k) & 1 == 1
 }
 
-/// Why a sheet, a text, tables or a call is turned down: the number of the refusal, and where its cause is.
-///
-/// ```
-/// use comzsered::{answer, Answer};
-///
-/// let Answer::Refused(refusal) = answer(b"H    1    0    0\nO    1    2    0\nZ    2    0    0\n", &mut [])
-/// else { panic!() };
-/// assert_eq!((refusal.number, refusal.place, refusal.column), (6, 2, 0));
-/// assert_eq!(
-///     refusal.to_string(),
-///     "line 2: a point or literal is not allowed here, an unused field is not 0, \
-///      or a literal follows a 0"
-/// );
-/// ```
-///
-/// Number 2, a malformed line, also tells the column. Here it is that of the 0 before the 1: a
-/// number has no leading zero.
-///
-/// ```
-/// use comzsered::{answer, Answer};
-///
-/// let Answer::Refused(refusal) = answer(b"H    1    0    0\nR   01    0    0\nZ    2    0    0\n", &mut [])
-/// else { panic!() };
-/// assert_eq!((refusal.number, refusal.place, refusal.column), (2, 2, 5));
-/// assert_eq!(
-///     refusal.to_string(),
-///     "line 2, column 5: no well-formed line begins like this"
-/// );
-/// ```
-///
-/// Number 12 is for typed texts alone. Its place is the byte with which the text ceases to be the
-/// beginning of a legal one.
-///
-/// ```
-/// use comzsered::{answer, Answer, Input};
-///
-/// let Answer::Refused(refusal) = answer(Input::Text(b"switches 1\nfaults 01\n"), &mut [])
-/// else { panic!() };
-/// assert_eq!((refusal.number, refusal.place, refusal.column), (12, 20, 0));
-/// assert_eq!(refusal.to_string(), "byte 20: no legal text goes on like this");
-/// ```
-///
-/// Of tables, 4, 5 and 6 tell the line on which the entry would stand on the sheet: see [`write`].
-/// Number 13 comes from [`figures::write`] alone.
-#[derive(Clone, Copy, Debug, PartialEq, Eq, Hash)]
-pub struct Refusal {
-    pub number: u32,
-    /// A line, a byte or a position, counted from 1; 0 where there is none.
-    pub place: usize,
-    /// The column, 1 to 17, at which a malformed line stops being the beginning of any well-formed
-    /// one, the line feed being 17; 0 where there is none, which is after every number but 2.
-    pub column: usize,
-}
-
-impl fmt::Display for Refusal {
-    fn fmt(&self, f: &mut fmt::Formatter) -> fmt::Result {
-        let Refusal {
-            number,
-            place,
-            column,
-        } = *self;
-        let cause = match number {
-            1 => "the sheet's length is 0, above 9,010 or no multiple of 17",
-            2 => "no well-formed line begins like this",
-            3 => "this letter is not allowed at this line",
-            4 => "the number of switches is not 0 to 20 or that of faults is not 0 to 16",
-            5 => "there are more than 400 gates, 64 rules or 64 wishes",
-            6 => {
-                "a point or literal is not allowed here, an unused field is not 0, \
-                 or a literal follows a 0"
-            }
-            7 => "the count of the lines before this one is wrong",
-            8 => "no plan passes the patterns",
-            9 => "the list is longer than the room lent for it",
-            10 => "the plan has more binary digits than there are switches",
-            11 => "the pattern has more binary digits than there are faults",
-            12 if place == 0 => "the text is longer than 16,384 bytes",
-            12 => "no legal text goes on like this",
-            13 => "the sheet is longer than the room lent for it",
-            _ => return write!(f, "refused with number {number}, place {place}"),
-        };
-        match number {
-            2 => write!(f, "line {place}, column {column}: {cause}"),
-            3..=7 => write!(f, "line {place}: {cause}"),
-            11 => write!(f, "pattern {place} of the given ones: {cause}"),
-            12 if place != 0 => write!(f, "byte {place}: {cause}"),
-            _ => write!(f, "{cause}"),
-        }
-    }
-}
-
-impl std::error::Error for Refusal {}
-
-const fn refusal(number: u32, place: usize, column: usize) -> Refusal {
+/// Where the library found this cause.
+fn refusal(cause: Cause, place: usize, column: usize) -> Refusal {
     Refusal {
-        number,
+        cause,
         place,
         column,
     }
@@ -267,7 +186,7 @@ pub enum ShortRun {
     Plan { plan: Plan, cost: u32 },
     /// No plan passes the given patterns.
     NoPlan,
-    /// The input is turned down, or a pattern that it does not have (number 11).
+    /// The input is turned down, or a pattern that it does not have ([`Cause::HighPattern`]).
     Refused(Refusal),
 }
 
@@ -278,35 +197,35 @@ pub enum Rating {
     Sound { cost: u32 },
     /// The plan does not pass every pattern. This is the smallest that it does not pass.
     NotSound { cost: u32, pattern: Pattern },
-    /// The input is turned down, or a plan that it does not have (number 10).
+    /// The input is turned down, or a plan that it does not have ([`Cause::HighPlan`]).
     Refused(Refusal),
 }
 
 impl From<Found> for Answer {
     fn from(found: Found) -> Answer {
         let patterns = found.length;
-        match found.number {
-            0 => Answer::Plan {
+        match Cause::of(found.number) {
+            None => Answer::Plan {
                 plan: Plan(found.plan),
                 cost: found.cost,
                 patterns,
             },
-            8 => Answer::NoPlan { patterns },
-            9 => Answer::NoRoom { patterns },
-            number => Answer::Refused(refusal(number, found.place, found.column)),
+            Some(Cause::NoPlan) => Answer::NoPlan { patterns },
+            Some(Cause::NoRoom) => Answer::NoRoom { patterns },
+            Some(cause) => Answer::Refused(refusal(cause, found.place, found.column)),
         }
     }
 }
 
 impl From<Found> for ShortRun {
     fn from(found: Found) -> ShortRun {
-        match found.number {
-            0 => ShortRun::Plan {
+        match Cause::of(found.number) {
+            None => ShortRun::Plan {
                 plan: Plan(found.plan),
                 cost: found.cost,
             },
-            8 => ShortRun::NoPlan,
-            number => ShortRun::Refused(refusal(number, found.place, found.column)),
+            Some(Cause::NoPlan) => ShortRun::NoPlan,
+            Some(cause) => ShortRun::Refused(refusal(cause, found.place, found.column)),
         }
     }
 }
@@ -314,13 +233,13 @@ impl From<Found> for ShortRun {
 impl From<Rated> for Rating {
     fn from(rated: Rated) -> Rating {
         let cost = rated.cost;
-        match (rated.number, rated.sound) {
-            (0, 0) => Rating::NotSound {
+        match (Cause::of(rated.number), rated.sound) {
+            (None, 0) => Rating::NotSound {
                 cost,
                 pattern: Pattern(rated.pattern),
             },
-            (0, _) => Rating::Sound { cost },
-            (number, _) => Rating::Refused(refusal(number, rated.place, rated.column)),
+            (None, _) => Rating::Sound { cost },
+            (Some(cause), _) => Rating::Refused(refusal(cause, rated.place, rated.column)),
         }
     }
 }
@@ -337,10 +256,10 @@ pub fn answer<'a>(input: impl Into<Input<'a>>, list: &mut [u32]) -> Answer {
 /// there is none:
 ///
 /// ```
-/// use comzsered::{answer, short_run, Answer, Plan, ShortRun};
+/// use comzsered::{answer, short_run, Answer, Plan, Sheet, ShortRun};
 ///
 /// // The one switch must be on, and is wished to be off.
-/// let sheet = b"H    1    1    0\nR    1    0    0\nW   -1    0    0\nZ    3    0    0\n";
+/// let sheet = Sheet(b"H    1    1    0\nR    1    0    0\nW   -1    0    0\nZ    3    0    0\n");
 /// let mut list = [0; 2];
 /// assert_eq!(answer(sheet, &mut list), Answer::Plan { plan: Plan(1), cost: 1, patterns: 1 });
 /// assert_eq!(short_run(sheet, &list[..1]), ShortRun::Plan { plan: Plan(1), cost: 1 });
@@ -354,15 +273,15 @@ pub fn short_run<'a>(input: impl Into<Input<'a>>, patterns: &[u32]) -> ShortRun 
 /// What a plan costs, and whether it is sound.
 ///
 /// ```
-/// use comzsered::{rating, Pattern, Plan, Rating};
+/// use comzsered::{rating, Cause, Pattern, Plan, Rating, Sheet};
 ///
 /// // The switch or the fault must be true, and the switch is wished to be off.
-/// let sheet = b"H    1    1    0\nO    1    2    0\nR    3    0    0\nW   -1    0    0\nZ    4    0    0\n";
+/// let sheet = Sheet(b"H    1    1    0\nO    1    2    0\nR    3    0    0\nW   -1    0    0\nZ    4    0    0\n");
 /// assert_eq!(rating(sheet, Plan(0)), Rating::NotSound { cost: 0, pattern: Pattern(0) });
 /// assert_eq!(rating(sheet, Plan(1)), Rating::Sound { cost: 1 });
 ///
 /// let Rating::Refused(refusal) = rating(sheet, Plan(2)) else { panic!() };
-/// assert_eq!(refusal.number, 10);
+/// assert_eq!(refusal.cause, Cause::HighPlan);
 /// ```
 pub fn rating<'a>(input: impl Into<Input<'a>>, plan: Plan) -> Rating {
     figures::rating(input, plan.0).into()
@@ -373,7 +292,7 @@ pub fn rating<'a>(input: impl Into<Input<'a>>, plan: Plan) -> Rating {
 /// number 2 the column stands there instead of the cost.
 ///
 /// ```
-/// let sheet = b"H    0    1    0\nR    1    0    0\nZ    2    0    0\n";
+/// let sheet = comzsered::Sheet(b"H    0    1    0\nR    1    0    0\nZ    2    0    0\n");
 /// let printed = b"A    8    0    0\nF    1    0    0\nZ    2    0    0\n";
 /// assert_eq!(comzsered::listing(sheet), printed);
 /// ```
@@ -387,9 +306,9 @@ pub fn listing<'a>(input: impl Into<Input<'a>>) -> Vec<u8> {
 /// What a sheet or a text says.
 ///
 /// ```
-/// use comzsered::{read, Gate, Input, Literal, Point, Wish};
+/// use comzsered::{read, Gate, Literal, Point, Text, Wish};
 ///
-/// let text = Input::Text(b"switches 2\nfaults 1\nrule s1 | !f1\nwish !s1 s2\n");
+/// let text = Text(b"switches 2\nfaults 1\nrule s1 | !f1\nwish !s1 s2\n");
 /// let tables = read(text).unwrap();
 /// assert_eq!((tables.switches, tables.faults), (2, 1));
 /// assert_eq!(tables.gates, [Gate::Not(Point(3)), Gate::Or(Point(1), Point(4))]);
@@ -399,9 +318,9 @@ pub fn listing<'a>(input: impl Into<Input<'a>>) -> Vec<u8> {
 pub fn read<'a>(input: impl Into<Input<'a>>) -> Result<Tables, Refusal> {
     let mut words = Words::EMPTY;
     let read = figures::read(input, &mut words);
-    match read.number {
-        0 => Ok(Tables::of(&words)),
-        number => Err(refusal(number, read.place, read.column)),
+    match Cause::of(read.number) {
+        None => Ok(Tables::of(&words)),
+        Some(cause) => Err(refusal(cause, read.place, read.column)),
     }
 }
 
@@ -412,10 +331,10 @@ pub fn read<'a>(input: impl Into<Input<'a>>) -> Result<Tables, Refusal> {
 /// from a sheet is written as that sheet.
 ///
 /// ```
-/// use comzsered::{answer, read, write, Answer, Input, Literal, Plan, Point, Wish};
+/// use comzsered::{answer, read, write, Answer, Cause, Literal, Plan, Point, Sheet, Text, Wish};
 ///
 /// // One of two switches must be on, and both are wished to be off.
-/// let text = Input::Text(b"switches 2\nfaults 0\nrule s1|s2\nwish !s1\n");
+/// let text = Text(b"switches 2\nfaults 0\nrule s1|s2\nwish !s1\n");
 /// let mut tables = read(text).unwrap();
 /// tables.wishes.push(Wish::from([Literal::off(2)]));
 /// let sheet = write(&tables).unwrap();
@@ -427,20 +346,20 @@ pub fn read<'a>(input: impl Into<Input<'a>>) -> Result<Tables, Refusal> {
 /// W   -2    0    0\n\
 /// Z    5    0    0\n");
 /// let plan = Answer::Plan { plan: Plan(1), cost: 1, patterns: 1 };
-/// assert_eq!(answer(&sheet, &mut [0; 1]), plan);
+/// assert_eq!(answer(Sheet(&sheet), &mut [0; 1]), plan);
 ///
 /// // Point 4 is not on the sheet, and the rule would stand on line 3.
 /// tables.rules[0] = Point(4);
 /// let refusal = write(&tables).unwrap_err();
-/// assert_eq!((refusal.number, refusal.place), (6, 3));
+/// assert_eq!((refusal.cause, refusal.place), (Cause::BadField, 3));
 /// ```
 pub fn write(tables: &Tables) -> Result<Vec<u8>, Refusal> {
     let mut out = vec![0; SHEET_MAX];
     let written = figures::write(&tables.words(), &mut out);
     out.truncate(written.length);
-    match written.number {
-        0 => Ok(out),
-        number => Err(refusal(number, written.place, written.column)),
+    match Cause::of(written.number) {
+        None => Ok(out),
+        Some(cause) => Err(refusal(cause, written.place, written.column)),
     }
 }
 
@@ -464,17 +383,17 @@ mod tests {
 
     pub const SAMPLE: &str = "H 2 2; O 1 2; O 3 4; O 5 6; R 7; W -1; W -2; Z 7";
     /// The same typed.
-    pub const TEXT: Input =
-        Input::Text(b"switches 2\nfaults 2\nrule (s1|s2)|(f1|f2)\nwish !s1\nwish !s2\n");
+    pub const TEXT: Text =
+        Text(b"switches 2\nfaults 2\nrule (s1|s2)|(f1|f2)\nwish !s1\nwish !s2\n");
     const FOLLOWER: &str = "H 1 1; N 1; N 2; A 1 2; A 3 4; O 5 6; R 7; Z 7";
 
-    /// Without a column, which the library tells after number 2 only.
-    pub fn refused(number: u32, place: usize) -> Refusal {
-        refusal(number, place, 0)
+    /// Without a column, which the library tells of a malformed line only.
+    pub fn refused(cause: Cause, place: usize) -> Refusal {
+        refusal(cause, place, 0)
     }
 
     /// The second line has a minus without a digit.
-    const MALFORMED: &[u8] = b"H    1    0    0\nW    1    -    0\nZ    2    0    0\n";
+    const MALFORMED: Sheet = Sheet(b"H    1    0    0\nW    1    -    0\nZ    2    0    0\n");
 
     #[test]
     fn answers() {
@@ -484,25 +403,25 @@ mod tests {
             cost: 1,
             patterns: 1,
         };
-        assert_eq!(answer(&sheet(SAMPLE), &mut list), plan);
+        assert_eq!(answer(Sheet(&sheet(SAMPLE)), &mut list), plan);
         assert_eq!(list, [0, 77, 77, 77]);
 
         let mut list = [77; 4];
         let none = Answer::NoPlan { patterns: 2 };
-        assert_eq!(answer(&sheet(FOLLOWER), &mut list), none);
+        assert_eq!(answer(Sheet(&sheet(FOLLOWER)), &mut list), none);
         assert_eq!(list, [1, 0, 77, 77]);
 
         let mut list = [77; 1];
         let no_room = Answer::NoRoom { patterns: 1 };
-        assert_eq!(answer(&sheet(FOLLOWER), &mut list), no_room);
+        assert_eq!(answer(Sheet(&sheet(FOLLOWER)), &mut list), no_room);
         assert_eq!(list, [1]);
 
         let mut list = [77; 4];
-        let wrong = Answer::Refused(refused(1, 0));
-        assert_eq!(answer(b"", &mut list), wrong);
-        let wrong = Answer::Refused(refused(7, 2));
-        assert_eq!(answer(&sheet("H; Z 2"), &mut list), wrong);
-        let wrong = Answer::Refused(refusal(2, 2, 11));
+        let wrong = Answer::Refused(refused(Cause::BadLength, 0));
+        assert_eq!(answer(Sheet(b""), &mut list), wrong);
+        let wrong = Answer::Refused(refused(Cause::BadCount, 2));
+        assert_eq!(answer(Sheet(&sheet("H; Z 2")), &mut list), wrong);
+        let wrong = Answer::Refused(refusal(Cause::Malformed, 2, 11));
         assert_eq!(answer(MALFORMED, &mut list), wrong);
         assert_eq!(list, [77; 4]);
     }
@@ -510,46 +429,51 @@ mod tests {
     /// A text is answered as the sheet that it stands for, in every job.
     #[test]
     fn texts() {
-        let sheet = sheet(SAMPLE);
+        let bytes = sheet(SAMPLE);
+        let sheet = Sheet(&bytes);
         let (mut of_text, mut of_sheet) = ([77; 4], [77; 4]);
-        assert_eq!(answer(TEXT, &mut of_text), answer(&sheet, &mut of_sheet));
+        assert_eq!(answer(TEXT, &mut of_text), answer(sheet, &mut of_sheet));
         assert_eq!(of_text, of_sheet);
         for patterns in [&[][..], &[0, 3], &[3, 4]] {
-            assert_eq!(short_run(TEXT, patterns), short_run(&sheet, patterns));
+            assert_eq!(short_run(TEXT, patterns), short_run(sheet, patterns));
         }
         for plan in [0, 3, 4].map(Plan) {
-            assert_eq!(rating(TEXT, plan), rating(&sheet, plan));
+            assert_eq!(rating(TEXT, plan), rating(sheet, plan));
         }
-        assert_eq!(listing(TEXT), listing(&sheet));
+        assert_eq!(listing(TEXT), listing(sheet));
     }
 
     #[test]
     fn refused_texts() {
         // The last byte is the first that is wrong.
-        let zero = Input::Text(b"switches 2\nfaults 2\nrule s1|f0");
-        let refusal = refused(12, 30);
+        let zero = Text(b"switches 2\nfaults 2\nrule s1|f0");
+        let refusal = refused(Cause::IllegalText, 30);
         let mut list = [77; 4];
         assert_eq!(answer(zero, &mut list), Answer::Refused(refusal));
         assert_eq!(list, [77; 4]);
         assert_eq!(short_run(zero, &[9]), ShortRun::Refused(refusal));
         assert_eq!(rating(zero, Plan(9)), Rating::Refused(refusal));
         assert_eq!(listing(zero), b"A   12   30    0\nZ    1    0    0\n");
-        for (text, number, place) in [
-            (&b""[..], 12, 1),
-            (b"switches 21\nfaults 17\n", 4, 1),
-            (b"switches 20\nfaults 17\n", 4, 2),
-            (b"switches 1\nfaults 1\nrule s1\nrule s2\n", 6, 4),
-            (&[b'\n'; TEXT_MAX + 1], 12, 0),
+        for (text, cause, place) in [
+            (&b""[..], Cause::IllegalText, 1),
+            (b"switches 21\nfaults 17\n", Cause::OutOfRange, 1),
+            (b"switches 20\nfaults 17\n", Cause::OutOfRange, 2),
+            (
+                b"switches 1\nfaults 1\nrule s1\nrule s2\n",
+                Cause::BadField,
+                4,
+            ),
+            (&[b'\n'; TEXT_MAX + 1], Cause::IllegalText, 0),
         ] {
-            let refusal = Answer::Refused(refused(number, place));
-            assert_eq!(answer(Input::Text(text), &mut []), refusal);
+            let refusal = Answer::Refused(refused(cause, place));
+            assert_eq!(answer(Text(text), &mut []), refusal);
         }
         // A sheet is no text, and a text no sheet.
         let sheet = sheet(SAMPLE);
-        let refusal = Answer::Refused(refused(12, 1));
-        assert_eq!(answer(Input::Text(&sheet), &mut []), refusal);
-        let refusal = Answer::Refused(refused(1, 0));
-        assert_eq!(answer(b"switches 1\nfaults 1\n", &mut []), refusal);
+        let refusal = Answer::Refused(refused(Cause::IllegalText, 1));
+        assert_eq!(answer(Text(&sheet), &mut []), refusal);
+        let refusal = Answer::Refused(refused(Cause::BadLength, 0));
+        assert_eq!(answer(Sheet(b"switches 1\nfaults 1\n"), &mut []), refusal);
     }
 
     #[test]
@@ -558,40 +482,46 @@ mod tests {
             plan: Plan(plan),
             cost,
         };
-        assert_eq!(short_run(&sheet(SAMPLE), &[]), plan(0, 0));
-        assert_eq!(short_run(&sheet(SAMPLE), &[0, 3, 0]), plan(1, 1));
-        assert_eq!(short_run(&sheet(FOLLOWER), &[0, 1]), ShortRun::NoPlan);
+        assert_eq!(short_run(Sheet(&sheet(SAMPLE)), &[]), plan(0, 0));
+        assert_eq!(short_run(Sheet(&sheet(SAMPLE)), &[0, 3, 0]), plan(1, 1));
         assert_eq!(
-            short_run(&sheet(SAMPLE), &[3, 4]),
-            ShortRun::Refused(refused(11, 2))
+            short_run(Sheet(&sheet(FOLLOWER)), &[0, 1]),
+            ShortRun::NoPlan
         );
         assert_eq!(
-            short_run(&sheet("H"), &[9]),
-            ShortRun::Refused(refused(3, 1))
+            short_run(Sheet(&sheet(SAMPLE)), &[3, 4]),
+            ShortRun::Refused(refused(Cause::HighPattern, 2))
+        );
+        assert_eq!(
+            short_run(Sheet(&sheet("H")), &[9]),
+            ShortRun::Refused(refused(Cause::BadOrder, 1))
         );
         assert_eq!(
             short_run(MALFORMED, &[9]),
-            ShortRun::Refused(refusal(2, 2, 11))
+            ShortRun::Refused(refusal(Cause::Malformed, 2, 11))
         );
     }
 
     #[test]
     fn ratings() {
         let sample = sheet(SAMPLE);
-        assert_eq!(rating(&sample, Plan(3)), Rating::Sound { cost: 2 });
+        assert_eq!(rating(Sheet(&sample), Plan(3)), Rating::Sound { cost: 2 });
         let pattern = Pattern(0);
         assert_eq!(
-            rating(&sample, Plan(0)),
+            rating(Sheet(&sample), Plan(0)),
             Rating::NotSound { cost: 0, pattern }
         );
-        assert_eq!(rating(&sample, Plan(4)), Rating::Refused(refused(10, 0)));
         assert_eq!(
-            rating(&sheet("H 21"), Plan(0)),
-            Rating::Refused(refused(3, 1))
+            rating(Sheet(&sample), Plan(4)),
+            Rating::Refused(refused(Cause::HighPlan, 0))
+        );
+        assert_eq!(
+            rating(Sheet(&sheet("H 21")), Plan(0)),
+            Rating::Refused(refused(Cause::BadOrder, 1))
         );
         assert_eq!(
             rating(MALFORMED, Plan(9)),
-            Rating::Refused(refusal(2, 2, 11))
+            Rating::Refused(refusal(Cause::Malformed, 2, 11))
         );
     }
 
@@ -606,18 +536,18 @@ W    2    0    0
 F    1    0    0
 Z    6    0    0
 ";
-        assert_eq!(listing(&sheet(SAMPLE)), printed.as_bytes());
+        assert_eq!(listing(Sheet(&sheet(SAMPLE))), printed.as_bytes());
         let printed = b"A    2    2   11\nZ    1    0    0\n";
         assert_eq!(listing(MALFORMED), printed);
         let mut short = vec![77; LISTING_MAX - 1];
-        assert_eq!(figures::listing(&sheet(SAMPLE), &mut short), 0);
+        assert_eq!(figures::listing(Sheet(&sheet(SAMPLE)), &mut short), 0);
         assert!(short.iter().all(|&byte| byte == 77));
     }
 
     /// Each number of Answer and Short run becomes one case and loses no figure of it.
     #[test]
     fn every_number_of_a_search() {
-        for number in 0..=14 {
+        for number in 0..=13 {
             let found = Found {
                 number,
                 place: 5,
@@ -627,9 +557,9 @@ Z    6    0    0
                 length: 8,
             };
             let (plan, cost, patterns) = (Plan(6), 7, 8);
-            let refusal = refusal(number, 5, 9);
-            let (answer, short_run) = match number {
-                0 => (
+            let refusal = |cause| refusal(cause, 5, 9);
+            let (answer, short_run) = match Cause::of(number) {
+                None => (
                     Answer::Plan {
                         plan,
                         cost,
@@ -637,9 +567,15 @@ Z    6    0    0
                     },
                     ShortRun::Plan { plan, cost },
                 ),
-                8 => (Answer::NoPlan { patterns }, ShortRun::NoPlan),
-                9 => (Answer::NoRoom { patterns }, ShortRun::Refused(refusal)),
-                _ => (Answer::Refused(refusal), ShortRun::Refused(refusal)),
+                Some(Cause::NoPlan) => (Answer::NoPlan { patterns }, ShortRun::NoPlan),
+                Some(cause @ Cause::NoRoom) => (
+                    Answer::NoRoom { patterns },
+                    ShortRun::Refused(refusal(cause)),
+                ),
+                Some(cause) => (
+                    Answer::Refused(refusal(cause)),
+                    ShortRun::Refused(refusal(cause)),
+                ),
             };
             assert_eq!(Answer::from(found), answer);
             assert_eq!(ShortRun::from(found), short_run);
@@ -648,7 +584,7 @@ Z    6    0    0
 
     #[test]
     fn every_number_of_a_rating() {
-        for number in 0..=14 {
+        for number in 0..=13 {
             let rated = |sound| Rated {
                 number,
                 place: 5,
@@ -658,44 +594,22 @@ Z    6    0    0
                 pattern: 3,
                 length: 0,
             };
-            let (sound, not_sound) = match number {
-                0 => (
+            let (sound, not_sound) = match Cause::of(number) {
+                None => (
                     Rating::Sound { cost: 7 },
                     Rating::NotSound {
                         cost: 7,
                         pattern: Pattern(3),
                     },
                 ),
-                _ => {
-                    let refusal = Rating::Refused(refusal(number, 5, 9));
+                Some(cause) => {
+                    let refusal = Rating::Refused(refusal(cause, 5, 9));
                     (refusal, refusal)
                 }
             };
             assert_eq!(Rating::from(rated(1)), sound);
             assert_eq!(Rating::from(rated(0)), not_sound);
         }
-    }
-
-    #[test]
-    fn refusals_in_words() {
-        let said = |number, place| refused(number, place).to_string();
-        assert_eq!(
-            said(1, 0),
-            "the sheet's length is 0, above 9,010 or no multiple of 17"
-        );
-        let column = refusal(2, 7, 12).to_string();
-        assert!(column.starts_with("line 7, column 12: "), "{column}");
-        for number in 3..=7 {
-            assert!(said(number, 12).starts_with("line 12: "), "{number}");
-        }
-        assert!(!said(10, 0).contains('0'));
-        assert!(said(11, 3).starts_with("pattern 3 of the given ones: "));
-        assert_eq!(said(12, 57), "byte 57: no legal text goes on like this");
-        assert_eq!(said(12, 0), "the text is longer than 16,384 bytes");
-        assert!(!said(13, 0).contains('0'));
-        assert_eq!(said(99, 4), "refused with number 99, place 4");
-        let all: std::collections::BTreeSet<String> = (1..=14).map(|n| said(n, 1)).collect();
-        assert_eq!(all.len(), 14);
     }
 
     /// The words of [`SAMPLE`].
@@ -724,12 +638,12 @@ Z    6    0    0
             ..Words::EMPTY
         };
         let sheet = sheet(SAMPLE);
-        for input in [Input::Sheet(&sheet), TEXT] {
+        for input in [Input::Sheet(&sheet), TEXT.into()] {
             let mut tables = any.clone();
             figures::read(input, &mut tables);
             assert_eq!(tables, words());
         }
-        for input in [Input::Sheet(MALFORMED), Input::Text(MALFORMED)] {
+        for input in [MALFORMED.into(), Input::Text(MALFORMED.0)] {
             let mut tables = any.clone();
             let read = figures::read(input, &mut tables);
             assert_ne!(read.number, 0);

@@ -112,7 +112,7 @@ impl Literal {
     fn of(word: u32) -> Option<Literal> {
         let literal = Literal {
             switch: word / 2,
-            on: word % 2 == 0,
+            on: word & 1 == 0,
         };
         (word != 0).then_some(literal)
     }
@@ -223,7 +223,7 @@ fn count<T>(entries: &[T]) -> u32 {
 mod tests {
     use super::*;
     use crate::tests::{refused, sheet, SAMPLE, TEXT};
-    use crate::{read, write, Input, Refusal};
+    use crate::{read, write, Cause, Refusal, Sheet, Text};
 
     /// What [`SAMPLE`] says.
     fn sample() -> Tables {
@@ -246,11 +246,11 @@ mod tests {
 
     #[test]
     fn read_and_written() {
-        assert_eq!(read(&sheet(SAMPLE)), Ok(sample()));
+        assert_eq!(read(Sheet(&sheet(SAMPLE))), Ok(sample()));
         assert_eq!(read(TEXT), Ok(sample()));
         assert_eq!(write(&sample()), Ok(sheet(SAMPLE)));
         let all = "H 3 1; N 4; A 1 5; O 6 2; R 7; R 1; W 1 -2 3; W -3 3; W 1; W; Z 10";
-        let tables = read(&sheet(all)).unwrap();
+        let tables = read(Sheet(&sheet(all))).unwrap();
         assert_eq!(tables.gates[0], Gate::Not(tables.fault(1)));
         assert_eq!(tables.gates[1], Gate::And(tables.switch(1), tables.gate(1)));
         let literals: Vec<Literal> = tables.wishes[0].literals().collect();
@@ -262,20 +262,23 @@ mod tests {
     #[test]
     fn nothing_at_all() {
         assert_eq!(write(&Tables::default()), Ok(sheet("H; Z 1")));
-        assert_eq!(read(&sheet("H; Z 1")), Ok(Tables::default()));
+        assert_eq!(read(Sheet(&sheet("H; Z 1"))), Ok(Tables::default()));
     }
 
     #[test]
     fn not_read() {
-        assert_eq!(read(b""), Err(refused(1, 0)));
-        assert_eq!(read(&sheet("H; Z 2")), Err(refused(7, 2)));
+        assert_eq!(read(Sheet(b"")), Err(refused(Cause::BadLength, 0)));
         assert_eq!(
-            read(Input::Text(b"switches 9\nfault")),
-            Err(refused(12, 17))
+            read(Sheet(&sheet("H; Z 2"))),
+            Err(refused(Cause::BadCount, 2))
         );
-        let malformed = b"H    0    0    0\nZ    1    0   0 \n";
+        assert_eq!(
+            read(Text(b"switches 9\nfault")),
+            Err(refused(Cause::IllegalText, 17))
+        );
+        let malformed = Sheet(b"H    0    0    0\nZ    1    0   0 \n");
         let refusal = Refusal {
-            number: 2,
+            cause: Cause::Malformed,
             place: 2,
             column: 15,
         };
@@ -287,23 +290,31 @@ mod tests {
         let no_such = [Literal::on(3), Literal::on(0), Literal::off(0)];
         let too_large = [Literal::on(1 << 31), Literal::off(u32::MAX)];
         let mut cases = vec![
-            (changed(|t| t.switches = 21), 4, 1),
-            (changed(|t| t.faults = u32::MAX), 4, 1),
-            (changed(|t| t.gates[0] = Gate::Not(Point(0))), 6, 2),
+            (changed(|t| t.switches = 21), Cause::OutOfRange, 1),
+            (changed(|t| t.faults = u32::MAX), Cause::OutOfRange, 1),
+            (
+                changed(|t| t.gates[0] = Gate::Not(Point(0))),
+                Cause::BadField,
+                2,
+            ),
             (
                 changed(|t| t.gates[1] = Gate::And(Point(1), Point(0))),
-                6,
+                Cause::BadField,
                 3,
             ),
-            (changed(|t| t.gates[2] = Gate::Not(t.gate(3))), 6, 4),
-            (changed(|t| t.rules[0] = t.gate(4)), 6, 5),
+            (
+                changed(|t| t.gates[2] = Gate::Not(t.gate(3))),
+                Cause::BadField,
+                4,
+            ),
+            (changed(|t| t.rules[0] = t.gate(4)), Cause::BadField, 5),
         ];
         for literal in no_such.into_iter().chain(too_large) {
             let wish = Wish::from([Literal::on(1), literal]);
-            cases.push((changed(|t| t.wishes[1] = wish), 6, 7));
+            cases.push((changed(|t| t.wishes[1] = wish), Cause::BadField, 7));
         }
-        for (tables, number, place) in cases {
-            assert_eq!(write(&tables), Err(refused(number, place)), "{tables:?}");
+        for (tables, cause, place) in cases {
+            assert_eq!(write(&tables), Err(refused(cause, place)), "{tables:?}");
         }
     }
 
@@ -312,22 +323,22 @@ mod tests {
     fn beyond_the_room() {
         let or = sample().gates[0];
         let gates = |t: &mut Tables| t.gates.resize(405, or);
-        assert_eq!(write(&changed(gates)), Err(refused(5, 402)));
+        assert_eq!(write(&changed(gates)), Err(refused(Cause::OverLimit, 402)));
         let wrong = changed(|t| {
             gates(t);
             t.gates[2] = Gate::Not(Point(0));
         });
-        assert_eq!(write(&wrong), Err(refused(6, 4)));
+        assert_eq!(write(&wrong), Err(refused(Cause::BadField, 4)));
         let rules = changed(|t| t.rules.resize(65, Point(7)));
-        assert_eq!(write(&rules), Err(refused(5, 69)));
+        assert_eq!(write(&rules), Err(refused(Cause::OverLimit, 69)));
         let wishes = changed(|t| t.wishes.resize(65, Wish::default()));
-        assert_eq!(write(&wishes), Err(refused(5, 70)));
+        assert_eq!(write(&wishes), Err(refused(Cause::OverLimit, 70)));
         let full = changed(|t| {
             t.gates.resize(400, or);
             t.rules.resize(64, Point(1));
             t.wishes.resize(64, Wish::default());
         });
-        assert_eq!(read(&write(&full).unwrap()), Ok(full));
+        assert_eq!(read(Sheet(&write(&full).unwrap())), Ok(full));
     }
 
     #[test]

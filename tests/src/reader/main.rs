@@ -212,7 +212,7 @@ fn round_trip(form: Form, bytes: &[u8], trial: &Trial) -> Option<String> {
         return Some(format!("what was read is written as {shown}: {written:?}"));
     }
     let mut again = Words::EMPTY;
-    let read = figures::read(&out, &mut again);
+    let read = figures::read(Input::Sheet(&out), &mut again);
     (again != words).then(|| format!("written and read again it is {again:?}: {read:?}"))
 }
 
