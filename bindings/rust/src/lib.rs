@@ -14,7 +14,7 @@
 //! | Rating | [`rating`] | the cost of a plan, and whether it passes every pattern |
 //! | Listing | [`listing`] | the answer in lines of text, as the programs `plan` and `typed` print it |
 //! | Reading | [`read`] | what the sheet or text says, as [`Tables`] |
-//! | Writing | [`write`] | the sheet of some [`Tables`] |
+//! | Writing | [`write`](write()) | the sheet of some [`Tables`] |
 //!
 //! In this sheet one of two switches or two faults must be true, and both switches are wished to be
 //! off:
