@@ -140,8 +140,8 @@
 extern "C" {
 #endif
 
-/* The version: 0, then the change requests that have landed, then the landings since the last of
-   them. */
+/* The version: 0, then the change requests that have landed, then the other landings since that a
+   caller can see. CHANGELOG.md has what each brought. */
 #define COMZSERED_VERSION_MAJOR 0
 #define COMZSERED_VERSION_MINOR 4
 #define COMZSERED_VERSION_PATCH 2
