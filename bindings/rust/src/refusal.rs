@@ -59,9 +59,14 @@ impl Cause {
         self as u32
     }
 
+    /// The cause that is told by this number, if there is one.
+    pub fn from_number(number: u32) -> Option<Cause> {
+        Cause::ALL.into_iter().find(|c| c.number() == number)
+    }
+
     /// The cause of a number that the library returned: none of 0, when the job is done.
     pub(crate) fn of(number: u32) -> Option<Cause> {
-        let cause = Cause::ALL.into_iter().find(|c| c.number() == number);
+        let cause = Cause::from_number(number);
         assert!(
             number == 0 || cause.is_some(),
             "number {number} is of another version of the library than this binding"
@@ -180,6 +185,11 @@ mod tests {
         for (i, cause) in (1..).zip(Cause::ALL) {
             assert_eq!((cause.number(), Cause::of(i)), (i, Some(cause)));
         }
+    }
+
+    #[test]
+    fn no_cause() {
+        assert_eq!([0, 14].map(Cause::from_number), [None, None]);
     }
 
     #[test]
