@@ -1,26 +1,14 @@
 #!/bin/sh
-# What a promise may name, and what a definition to believe may rest on. A crate's specs/Lib.antt marks the
-# modules to believe: those after a line that begins '-- to believe', up to the next comment.
+# What a promise may name, and what a definition to believe may rest on
+#
+# A crate's specs/Lib.antt marks the modules to believe: those after a line that begins '-- to believe', up to
+# the next comment.
 #
 # - No public function of any crate promises anything in terms of a module under laws/.
 # - A promise that planner exports names modules to believe alone, and has no `requires`. Exported is what can
 #   be reached from outside: the modules that its lib.rt has as `pub mod`, and the calls for C.
 # - A module to believe imports modules to believe alone: none that only computes, none under laws/.
-#
-# The last line is 'N passed, M failed'; the exit status is 0 exactly if M is 0.
-set -u
-
-passed=0
-failed=0
-
-finish() {
-    echo "$passed passed, $failed failed"
-    if [ "$failed" -eq 0 ]; then exit 0; else exit 1; fi
-}
-
-cd "$(dirname "$0")/../.." || { echo "FAILED: cannot enter the repository"; failed=1; finish; }
-work=$(mktemp -d) || { echo "FAILED: cannot make a temporary folder"; failed=1; finish; }
-trap 'rm -rf "$work"' EXIT
+cd "$(dirname "$0")/../.." && . tests/lib.sh || exit 1
 
 # ---- the modules to believe, a line 'CRATE MODULE' each
 
@@ -43,7 +31,8 @@ done >"$work/believed"
 
 # A line for each public function, 'fn FILE NAME', and below it what is wrong with it.
 promises() {
-    awk -v believed="$work/believed" -v exported="$work/exported" '
+    # shellcheck disable=SC2016 # the dollars are awk's
+    find crates -path '*/src/*.rt' | LC_ALL=C sort | xargs awk -v believed="$work/believed" -v exported="$work/exported" '
         # The words of a clause: what stands between other signs, up to the first dot.
         function words(clause,    n, i, w, part) {
             n = split(clause, part, /[^A-Za-z0-9_.-]+/)
@@ -84,10 +73,12 @@ promises() {
         }
         public && /^ *ensures/ { words($0) }
         out && /^ *requires/ { print "FAILED: " FILENAME ": " fn ", which is exported, has a requires" }
-    ' $(find crates -path '*/src/*.rt' | LC_ALL=C sort)
+    '
 }
 
 # ---- imports of modules to believe
+
+is_believed() { grep -Fqx "$*" "$work/believed"; } # CRATE MODULE
 
 imports() {
     while read -r crate module; do
@@ -97,7 +88,7 @@ imports() {
             while read -r from name; do
                 name=${name%.}
                 case $name in declared.*) continue ;; esac
-                grep -Fqx "$from $name" "$work/believed" ||
+                is_believed "$from" "$name" ||
                     echo "FAILED: $file, which is to be believed, imports $name of $from, which is not"
             done
     done <"$work/believed"
@@ -108,10 +99,7 @@ imports >>"$work/found"
 grep '^FAILED' "$work/found"
 failed=$(grep -c '^FAILED' "$work/found")
 looked=$(grep -c '^fn \|^mod ' "$work/found")
-# A search that finds no promise has found nothing out.
-if [ "$looked" -lt 60 ]; then
-    echo "FAILED: only $looked public functions and modules to believe were found"
-    failed=$((failed + 1))
-fi
 passed=$((looked > failed ? looked - failed : 0))
+# A search that finds hardly a promise has found nothing out.
+if [ "$looked" -lt 60 ]; then fail "only $looked public functions and modules to believe were found"; fi
 finish

@@ -1,0 +1,8 @@
+#!/bin/sh
+# Every job of the library against the second planner: sheets, typed texts, and both at the limits
+cd "$(dirname "$0")/../.." && . tests/lib.sh || exit 1
+
+need_comparisons
+counted "sheets" compare library
+counted "typed texts" compare library --texts 1
+finish
