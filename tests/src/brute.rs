@@ -1,6 +1,7 @@
 //! A second planner, in the plainest way, by the rules of docs/FORMAT.md alone: it tries every
 //! plan on every pattern, and works out every gate for each. The proved planner is compared with
-//! it, so it shares no code and no method with that one.
+//! it, so it shares no code and no method with that one. Sheets for which this would take too long
+//! bring a method of their own: see `limits`.
 
 use std::cell::Cell;
 
@@ -75,33 +76,34 @@ pub struct Run {
     pub end: End,
 }
 
+/// How a second planner finds what the list rule asks for.
+pub trait Method: Send {
+    fn passes(&self, plan: u32, pattern: u32) -> bool;
+
+    /// The best plan that passes all these patterns.
+    fn best(&self, patterns: &[u32]) -> Option<u32>;
+
+    /// The smallest pattern that the plan does not pass; none if it is sound.
+    fn first_failed(&self, plan: u32) -> Option<u32>;
+}
+
 /// An accepted sheet, ready for the jobs.
 pub struct Planner {
     pub sheet: Sheet,
-    /// Every plan, a better one before a worse one.
-    ranked: Vec<u32>,
-    /// What is known already of plans passing patterns, a row for each plan; empty for large sheets.
-    known: Vec<Cell<Option<bool>>>,
+    method: Box<dyn Method>,
 }
 
-/// Sheets with more switches and faults than this are large.
-const MOST_DIGITS: u32 = 22;
-
 impl Planner {
+    /// By brute force.
     pub fn new(sheet: Sheet) -> Planner {
-        let mut planner = Planner {
-            ranked: Vec::new(),
-            known: Vec::new(),
-            sheet,
-        };
-        let mut ranked: Vec<u32> = (0..planner.plans()).collect();
-        ranked.sort_by_cached_key(|&plan| (planner.cost(plan), plan));
-        planner.ranked = ranked;
-        let digits = planner.sheet.switches + planner.sheet.faults;
-        if digits <= MOST_DIGITS {
-            planner.known = vec![Cell::new(None); 1 << digits];
-        }
-        planner
+        let method = BruteForce::new(&sheet);
+        Planner::by(method, sheet)
+    }
+
+    /// By a method that knows this sheet.
+    pub fn by(method: impl Method + 'static, sheet: Sheet) -> Planner {
+        let method = Box::new(method);
+        Planner { sheet, method }
     }
 
     pub fn plans(&self) -> u32 {
@@ -112,65 +114,24 @@ impl Planner {
         1 << self.sheet.faults
     }
 
-    /// The truth of every point, in the order of their numbers.
-    fn points(&self, plan: u32, pattern: u32) -> Vec<bool> {
-        let Sheet {
-            switches, faults, ..
-        } = self.sheet;
-        let mut truth = Vec::with_capacity(self.sheet.points());
-        truth.extend((1..=switches).map(|k| digit(plan, switches, k)));
-        truth.extend((1..=faults).map(|k| digit(pattern, faults, k)));
-        for gate in &self.sheet.gates {
-            let at = |point: u32| truth[point as usize - 1];
-            let value = match gate.kind {
-                b'N' => !at(gate.left),
-                b'A' => at(gate.left) && at(gate.right),
-                _ => at(gate.left) || at(gate.right),
-            };
-            truth.push(value);
-        }
-        truth
-    }
-
-    fn all_rules_true(&self, plan: u32, pattern: u32) -> bool {
-        let truth = self.points(plan, pattern);
-        self.sheet.rules.iter().all(|&p| truth[p as usize - 1])
-    }
-
     pub fn passes(&self, plan: u32, pattern: u32) -> bool {
-        let entry = plan as usize * self.patterns() as usize + pattern as usize;
-        let Some(known) = self.known.get(entry) else {
-            return self.all_rules_true(plan, pattern);
-        };
-        let passes = known
-            .get()
-            .unwrap_or_else(|| self.all_rules_true(plan, pattern));
-        known.set(Some(passes));
-        passes
+        self.method.passes(plan, pattern)
     }
 
-    /// The smallest pattern that the plan does not pass; none if it is sound.
-    pub fn first_failed(&self, plan: u32) -> Option<u32> {
-        (0..self.patterns()).find(|&pattern| !self.passes(plan, pattern))
-    }
-
-    /// Whether a wish is kept: at least one of its literals holds.
-    pub fn keeps(&self, plan: u32, wish: &[i32]) -> bool {
-        let on = |literal: &i32| digit(plan, self.sheet.switches, literal.unsigned_abs());
-        wish.iter().any(|literal| on(literal) == (*literal > 0))
-    }
-
-    /// The broken wishes, each as often as it is written.
-    pub fn cost(&self, plan: u32) -> u32 {
-        let wishes = self.sheet.wishes.iter();
-        let broken = wishes.filter(|wish| !self.keeps(plan, wish));
-        broken.count() as u32
-    }
-
-    /// The best plan that passes all these patterns.
     pub fn best(&self, patterns: &[u32]) -> Option<u32> {
-        let passes_all = |plan: &&u32| patterns.iter().all(|&p| self.passes(**plan, p));
-        self.ranked.iter().find(passes_all).copied()
+        self.method.best(patterns)
+    }
+
+    pub fn first_failed(&self, plan: u32) -> Option<u32> {
+        self.method.first_failed(plan)
+    }
+
+    pub fn keeps(&self, plan: u32, wish: &[i32]) -> bool {
+        self.sheet.keeps(plan, wish)
+    }
+
+    pub fn cost(&self, plan: u32) -> u32 {
+        self.sheet.cost(plan)
     }
 
     /// The search, left once its list has more words than `limit`.
@@ -275,6 +236,102 @@ impl Planner {
         }
         lines.push(line('Z', lines.len(), 0, 0));
         lines.concat()
+    }
+}
+
+/// Every plan on every pattern, with every gate worked out for each.
+struct BruteForce {
+    sheet: Sheet,
+    /// Every plan, a better one before a worse one.
+    ranked: Vec<u32>,
+    /// What is known already of plans passing patterns, a row for each plan; empty for large sheets.
+    known: Vec<Cell<Option<bool>>>,
+}
+
+/// Sheets with more switches and faults than this are large.
+const MOST_DIGITS: u32 = 22;
+
+impl BruteForce {
+    fn new(sheet: &Sheet) -> BruteForce {
+        let digits = sheet.switches + sheet.faults;
+        let known = match digits {
+            0..=MOST_DIGITS => vec![Cell::new(None); 1 << digits],
+            _ => Vec::new(),
+        };
+        BruteForce {
+            sheet: sheet.clone(),
+            ranked: ranked(sheet),
+            known,
+        }
+    }
+
+    /// The truth of every point, in the order of their numbers.
+    fn points(&self, plan: u32, pattern: u32) -> Vec<bool> {
+        let Sheet {
+            switches, faults, ..
+        } = self.sheet;
+        let mut truth = Vec::with_capacity(self.sheet.points());
+        truth.extend((1..=switches).map(|k| digit(plan, switches, k)));
+        truth.extend((1..=faults).map(|k| digit(pattern, faults, k)));
+        for gate in &self.sheet.gates {
+            let at = |point: u32| truth[point as usize - 1];
+            let value = match gate.kind {
+                b'N' => !at(gate.left),
+                b'A' => at(gate.left) && at(gate.right),
+                _ => at(gate.left) || at(gate.right),
+            };
+            truth.push(value);
+        }
+        truth
+    }
+
+    fn all_rules_true(&self, plan: u32, pattern: u32) -> bool {
+        let truth = self.points(plan, pattern);
+        self.sheet.rules.iter().all(|&p| truth[p as usize - 1])
+    }
+}
+
+impl Method for BruteForce {
+    fn passes(&self, plan: u32, pattern: u32) -> bool {
+        let entry = (plan as usize) << self.sheet.faults | pattern as usize;
+        let Some(known) = self.known.get(entry) else {
+            return self.all_rules_true(plan, pattern);
+        };
+        let passes = known
+            .get()
+            .unwrap_or_else(|| self.all_rules_true(plan, pattern));
+        known.set(Some(passes));
+        passes
+    }
+
+    fn best(&self, patterns: &[u32]) -> Option<u32> {
+        let passes_all = |plan: &&u32| patterns.iter().all(|&p| self.passes(**plan, p));
+        self.ranked.iter().find(passes_all).copied()
+    }
+
+    fn first_failed(&self, plan: u32) -> Option<u32> {
+        (0..1 << self.sheet.faults).find(|&pattern| !self.passes(plan, pattern))
+    }
+}
+
+/// Every plan, a better one before a worse one.
+pub fn ranked(sheet: &Sheet) -> Vec<u32> {
+    let mut plans: Vec<u32> = (0..1 << sheet.switches).collect();
+    plans.sort_by_cached_key(|&plan| (sheet.cost(plan), plan));
+    plans
+}
+
+impl Sheet {
+    /// Whether a wish is kept: at least one of its literals holds.
+    pub fn keeps(&self, plan: u32, wish: &[i32]) -> bool {
+        let on = |literal: &i32| digit(plan, self.switches, literal.unsigned_abs());
+        wish.iter().any(|literal| on(literal) == (*literal > 0))
+    }
+
+    /// The broken wishes, each as often as it is written.
+    pub fn cost(&self, plan: u32) -> u32 {
+        let broken = self.wishes.iter().filter(|wish| !self.keeps(plan, wish));
+        broken.count() as u32
     }
 }
 
@@ -532,8 +589,9 @@ mod tests {
     fn small_and_large() {
         let short = "H 6 3; O 1 7; A 2 8; N 11; O 12 9; R 10; R 13; W -1; W 2; Z 9";
         let small = planner(short);
-        let mut large = planner(short);
+        let mut large = BruteForce::new(&small.sheet);
         large.known.clear();
+        let large = Planner::by(large, small.sheet.clone());
         assert_eq!(small.run(99), large.run(99));
         assert_eq!(small.run(99), large.run(99));
         for plan in 0..small.plans() {

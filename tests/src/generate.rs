@@ -94,7 +94,7 @@ impl Row {
         Row { letter, fields }
     }
 
-    fn written(&self) -> Vec<u8> {
+    pub(crate) fn written(&self) -> Vec<u8> {
         let mut line = vec![self.letter];
         for n in self.fields {
             line.extend(format!("{n:>COLUMNS$}").bytes());

@@ -13,6 +13,7 @@ pub mod oracle;
 pub mod planning;
 pub mod process;
 pub mod reading;
+pub mod shrink;
 pub mod tables;
 pub mod typed;
 pub mod workers;

@@ -120,7 +120,7 @@ pub fn read(bytes: &[u8]) -> Result<Sheet, Refusal> {
 }
 
 /// The letter, the part of the sheet that it belongs to and the numbers of a well-formed line.
-fn split(line: &[u8]) -> Option<(u8, u32, [i32; FIELDS])> {
+pub(crate) fn split(line: &[u8]) -> Option<(u8, u32, [i32; FIELDS])> {
     let part = part(line[0])?;
     let mut fields = [0; FIELDS];
     for (k, field) in fields.iter_mut().enumerate() {

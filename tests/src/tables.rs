@@ -92,6 +92,25 @@ impl Tables {
         ]
     }
 
+    /// The word at this place among all words.
+    pub fn word_mut(&mut self, at: usize) -> &mut u32 {
+        let counts = [
+            &mut self.switches,
+            &mut self.faults,
+            &mut self.gates,
+            &mut self.rules,
+            &mut self.wishes,
+        ];
+        let gates = self.gate.as_flattened_mut().iter_mut();
+        let wishes = self.wish.as_flattened_mut().iter_mut();
+        let mut all = counts
+            .into_iter()
+            .chain(gates)
+            .chain(&mut self.rule)
+            .chain(wishes);
+        all.nth(at).expect("a word of the tables")
+    }
+
     /// All words, one after another as they lie in memory.
     pub fn words(&self) -> Vec<u32> {
         let counts = [

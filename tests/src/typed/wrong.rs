@@ -1,5 +1,5 @@
 //! Readers that read texts wrongly. Each must give another outcome for many generated texts, so that
-//! the comparison shows it.
+//! the comparison shows it; and a text for which it does is shrunk to a small one.
 
 use std::collections::BTreeSet;
 
@@ -8,8 +8,10 @@ use super::generate::typed_text;
 use super::grammar::{Bounds, Grammar, LEGAL};
 use super::{all_there, legal, read, refuse, tables, value, Value, FAULTS_LINE, NOT_LEGAL};
 use crate::brute::Planner;
+use crate::form::Form;
 use crate::oracle::{Gate, Refusal, Sheet, BAD_FIELD, BAD_SIZE, MAX_FAULTS, MAX_GATES, TOO_MANY};
 use crate::planning::light;
+use crate::shrink::shrunk_bytes;
 
 type Read = Result<Sheet, Refusal>;
 
@@ -177,5 +179,33 @@ fn wrong_readings_show() {
         println!("{differ:>5} texts, {seen:>5} by what the jobs show: {name}");
         assert!(differ >= 50, "{name}: {differ}");
         assert!(seen >= 50 || unseen.contains(name), "{name}: {seen}");
+    }
+}
+
+/// The texts that are shrunk, for each reader so many.
+const SHRUNK: usize = 3;
+/// The bytes of the largest text that is left; and of one that has to be as deep as may be, or to have more
+/// rules, wishes or gates than there may be.
+const MOST_BYTES: usize = 60;
+const MOST_OF_A_DEEP_ONE: usize = 100;
+const MOST_OF_A_FULL_ONE: usize = 1_400;
+
+#[test]
+fn wrong_readings_are_shrunk() {
+    for (name, wrong) in WRONG {
+        let shows = |bytes: &[u8]| wrong(bytes) != read(bytes);
+        let most = match name {
+            "6 looked for on all lines before 5" => MOST_OF_A_FULL_ONE,
+            _ if name.contains("depth") => MOST_OF_A_DEEP_ONE,
+            _ => MOST_BYTES,
+        };
+        let made = (0..).map(|index| typed_text(3, index).bytes);
+        for bytes in made.filter(|bytes| shows(bytes)).take(SHRUNK) {
+            let small = shrunk_bytes(Form::Text, &bytes, shows);
+            println!("{:>5} bytes of {:>5}: {name}", small.len(), bytes.len());
+            assert!(shows(&small), "{name}");
+            let text = small.escape_ascii();
+            assert!(small.len() <= most, "{name}: {text}");
+        }
     }
 }

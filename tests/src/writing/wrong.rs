@@ -1,5 +1,5 @@
 //! Writers that write wrongly. Each must differ on many generated tables, so that the comparison
-//! shows it.
+//! shows it; and tables on which it does are shrunk to small ones.
 
 use super::check::Trial;
 use super::generate::{made_tables, MINUS_ZERO};
@@ -9,6 +9,7 @@ use crate::oracle::{
     BAD_FIELD, BAD_SIZE, LINE, MAX_BYTES, MAX_FAULTS, MAX_GATES, MAX_RULES, MAX_SWITCHES,
     MAX_WISHES, TOO_MANY,
 };
+use crate::shrink::shrunk;
 use crate::tables::Tables;
 
 /// What tables give, and how it is put into the buffer.
@@ -232,5 +233,37 @@ fn wrong_writers_show() {
     }
     for (wrong, differ) in WRONG.iter().zip(counts) {
         assert!(differ >= 50, "{}: {differ}", wrong.name);
+    }
+}
+
+/// The tables that are shrunk, for each writer so many.
+const SHRUNK: usize = 3;
+/// The words that are not 0 in the tables that are left, at most; and in those that have to have more gates than
+/// there is room for.
+const MOST_WORDS: usize = 8;
+const MOST_OF_FULL_ONES: usize = 2 * MAX_GATES + MOST_WORDS;
+
+#[test]
+fn wrong_writers_are_shrunk() {
+    for wrong in &WRONG {
+        let shows = |index: u64, tables: &Tables| {
+            let given = (wrong.sheet)(tables);
+            let trial = Trial::new(&mut Random::new(!3, index), tables);
+            let mut writer = |out: &mut [u8]| (wrong.put)(tables, &given, out);
+            trial.differs(&mut writer).is_some()
+        };
+        let most = match wrong.name {
+            "the count cut to the room" | "6 before 5 on a line" => MOST_OF_FULL_ONES,
+            _ => MOST_WORDS,
+        };
+        let made = (0..).map(|index| (index, made_tables(3, index).tables));
+        let shown = made.filter(|(index, tables)| shows(*index, tables));
+        for (index, tables) in shown.take(SHRUNK) {
+            let small = shrunk(tables, |less| shows(index, less));
+            let words = small.words().iter().filter(|&&word| word != 0).count();
+            println!("{words:>5} words: {}", wrong.name);
+            assert!(shows(index, &small), "{}", wrong.name);
+            assert!(words <= most, "{}: {small:?}", wrong.name);
+        }
     }
 }

@@ -5,6 +5,9 @@
 //! The planner may work out a gate again each time that another one names it. So what counts as
 //! the size of a circuit is the size of its rules written out as trees, and that is kept small.
 
+#[cfg(test)]
+mod wrong;
+
 use crate::generate::{damaged, string, written, Random, Row, DAMAGES};
 use crate::oracle::{read, Sheet, LITERALS, MAX_GATES, MAX_RULES, MAX_WISHES};
 
@@ -782,13 +785,11 @@ fn spoilt(r: &mut Random) -> Vec<u8> {
 mod tests {
     use super::*;
     use crate::brute::{End, Planner, Run};
-    use crate::oracle::{Refusal, COLUMNS, LINE, MALFORMED};
-    use std::collections::BTreeSet;
 
     /// More rounds than any sheet of the classes needs.
-    const LIMIT: usize = 2_000;
+    pub(super) const LIMIT: usize = 2_000;
 
-    fn accepted(seed: u64, count: u64) -> impl Iterator<Item = Planner> {
+    pub(super) fn accepted(seed: u64, count: u64) -> impl Iterator<Item = Planner> {
         (0..count)
             .filter_map(move |index| read(&planning_sheet(seed, index).bytes).ok())
             .map(Planner::new)
@@ -853,246 +854,5 @@ mod tests {
         }
         assert!(all_plans > 200, "{all_plans}");
         assert!(all_patterns > 200, "{all_patterns}");
-    }
-
-    // ---- planners that read the rules wrongly
-
-    /// The best plan that passes these patterns, better by this measure.
-    fn best_by<K: Ord>(
-        planner: &Planner,
-        patterns: &[u32],
-        measure: impl Fn(u32) -> K,
-    ) -> Option<u32> {
-        (0..planner.plans())
-            .filter(|&plan| patterns.iter().all(|&p| planner.passes(plan, p)))
-            .min_by_key(|&plan| measure(plan))
-    }
-
-    /// Whether a point holds, or its opposite, with every fault literal taken as false.
-    fn struck(planner: &Planner, plan: u32, point: u32, plain: bool) -> bool {
-        let Sheet {
-            switches,
-            faults,
-            ref gates,
-            ..
-        } = planner.sheet;
-        if point <= switches {
-            return (plan >> (switches - point) & 1 == 1) == plain;
-        }
-        if point <= switches + faults {
-            return false;
-        }
-        let gate = gates[(point - switches - faults) as usize - 1];
-        let at = |point, plain| struck(planner, plan, point, plain);
-        match (gate.kind, plain) {
-            (b'N', _) => at(gate.left, !plain),
-            (b'A', true) | (b'O', false) => at(gate.left, plain) && at(gate.right, plain),
-            _ => at(gate.left, plain) || at(gate.right, plain),
-        }
-    }
-
-    /// The list if it is begun anew when the cost rises, or if the largest pattern is taken.
-    fn wrong_list(planner: &Planner, forget: bool, largest: bool) -> Vec<u32> {
-        let (mut list, mut cost) = (Vec::new(), 0);
-        for _ in 0..LIMIT {
-            let Some(candidate) = planner.best(&list) else {
-                break;
-            };
-            let mut failed = (0..planner.patterns()).filter(|&p| !planner.passes(candidate, p));
-            let pattern = if largest {
-                failed.next_back()
-            } else {
-                failed.next()
-            };
-            let Some(pattern) = pattern else {
-                break;
-            };
-            if forget && planner.cost(candidate) > cost {
-                list.clear();
-            }
-            cost = planner.cost(candidate);
-            list.push(pattern);
-        }
-        list
-    }
-
-    /// Each wrong reading gives another answer on many sheets, so that the comparison shows it.
-    #[test]
-    fn wrong_readings_show() {
-        let names = [
-            "a repeated wish left out",
-            "a repeated wish left out if written in the same order",
-            "a repeated wish left out unless written in the same order",
-            "a wish counted twice for a literal that it has twice",
-            "the larger plan at equal cost",
-            "the first sound plan",
-            "faults tried singly",
-            "no fault and all faults",
-            "faults struck out",
-            "no fault",
-            "listed patterns forgotten",
-            "the largest pattern listed",
-        ];
-        let mut shown = [0; 12];
-        for planner in accepted(2, 6_000) {
-            let Run { list, end } = planner.run(LIMIT);
-            let right = match end {
-                End::Plan(plan) => Some(plan),
-                _ => None,
-            };
-            let every: Vec<u32> = (0..planner.patterns()).collect();
-            let singly: Vec<u32> = (0..planner.sheet.faults)
-                .map(|k| 1 << k)
-                .chain([0])
-                .collect();
-            let wishes = &planner.sheet.wishes;
-            // The cost if a broken wish k counts this often.
-            let counted = |times: &dyn Fn(usize) -> usize, plan| -> usize {
-                let broken = (0..wishes.len()).filter(|&k| !planner.keeps(plan, &wishes[k]));
-                broken.map(times).sum()
-            };
-            let set = |wish: &[i32]| wish.iter().copied().collect::<BTreeSet<i32>>();
-            let same_set = |k: usize| wishes[..k].iter().any(|w| set(w) == set(&wishes[k]));
-            let same_order = |k: usize| wishes[..k].contains(&wishes[k]);
-            let wrong_costs: [&dyn Fn(usize) -> usize; 4] = [
-                &|k| usize::from(!same_set(k)),
-                &|k| usize::from(!same_order(k)),
-                &|k| usize::from(!same_set(k) || same_order(k)),
-                &|k| 1 + wishes[k].len() - set(&wishes[k]).len(),
-            ];
-            let cost = |plan| (planner.cost(plan), plan);
-            let strike = |plan: u32| {
-                let rules = &planner.sheet.rules;
-                rules.iter().all(|&p| struck(&planner, plan, p, true))
-            };
-            let right_cost = right.map(|plan| (planner.cost(plan) as usize, plan));
-            let [sets, orders, others, twice] = wrong_costs.map(|times| {
-                let best = best_by(&planner, &every, |p| (counted(times, p), p));
-                best.map(|plan| (counted(times, plan), plan)) != right_cost
-            });
-            let wrong = [
-                sets,
-                orders,
-                others,
-                twice,
-                best_by(&planner, &every, |p| (planner.cost(p), u32::MAX - p)) != right,
-                best_by(&planner, &every, |p| p) != right,
-                best_by(&planner, &singly, cost) != right,
-                best_by(&planner, &[0, planner.patterns() - 1], cost) != right,
-                (0..planner.plans())
-                    .filter(|&p| strike(p))
-                    .min_by_key(|&p| cost(p))
-                    != right,
-                best_by(&planner, &[0], cost) != right,
-                wrong_list(&planner, true, false) != list,
-                wrong_list(&planner, false, true) != list,
-            ];
-            for (count, is_wrong) in shown.iter_mut().zip(wrong) {
-                *count += usize::from(is_wrong);
-            }
-        }
-        for (name, count) in names.iter().zip(shown) {
-            println!("{count:>5} sheets: {name}");
-            assert!(count >= 200, "{name}: {count}");
-        }
-    }
-
-    // ---- readers that tell the column wrongly
-
-    /// A malformed line, where it stands and the column at which it stops.
-    struct Stop<'a> {
-        line: &'a [u8],
-        place: usize,
-        column: usize,
-    }
-
-    impl Stop<'_> {
-        /// The columns of its field: none if the line stops at its letter or at its line feed.
-        fn field(&self) -> Option<std::ops::RangeInclusive<usize>> {
-            let in_field = (2..LINE).contains(&self.column);
-            let first = 2 + self.column.saturating_sub(2) / COLUMNS * COLUMNS;
-            in_field.then(|| first..=first + COLUMNS - 1)
-        }
-
-        fn byte(&self, column: usize) -> u8 {
-            self.line[column - 1]
-        }
-    }
-
-    /// Ways to tell another column. Each gives the right one where it sees no cause for another.
-    const WRONG_COLUMNS: [(&str, fn(&Stop) -> usize); 13] = [
-        ("one too small", |s| s.column - 1),
-        ("one too large", |s| s.column + 1),
-        ("counted from the field's beginning", |s| {
-            s.field().map_or(s.column, |f| s.column - f.start() + 1)
-        }),
-        ("the field", |s| {
-            s.field().map_or(s.column, |f| f.end() / COLUMNS)
-        }),
-        ("the byte of the whole sheet", |s| {
-            (s.place - 1) * LINE + s.column
-        }),
-        ("the field's first column", |s| {
-            s.field().map_or(s.column, |f| *f.start())
-        }),
-        ("the field's last column", |s| {
-            s.field().map_or(s.column, |f| *f.end())
-        }),
-        ("a 0 told one column later", |s| {
-            s.column + usize::from(s.field().is_some() && s.byte(s.column) == b'0')
-        }),
-        ("a minus without a number told where it stands", |s| {
-            let after_minus = s.field().is_some() && s.byte(s.column - 1) == b'-';
-            s.column - usize::from(after_minus)
-        }),
-        ("a minus in the last column told after it", |s| {
-            let last = s.field().is_some_and(|f| s.column == *f.end());
-            s.column + usize::from(last && s.byte(s.column) == b'-')
-        }),
-        ("a blank field told after it", |s| {
-            let text = s.field().map(|f| &s.line[f.start() - 1..*f.end()]);
-            s.column + usize::from(text == Some(b"     "))
-        }),
-        ("a space after a digit told at the digit", |s| {
-            let in_field = s.field().is_some_and(|f| s.column > *f.start());
-            let after_digit = in_field && s.byte(s.column - 1).is_ascii_digit();
-            s.column - usize::from(after_digit && s.byte(s.column) == b' ')
-        }),
-        ("the line feed looked at first", |s| {
-            if s.line[LINE - 1] == b'\n' {
-                s.column
-            } else {
-                LINE
-            }
-        }),
-    ];
-
-    /// Each wrong column shows on many sheets.
-    #[test]
-    fn wrong_columns_show() {
-        let mut shown = [0; WRONG_COLUMNS.len()];
-        for index in 0..24_000 {
-            let bytes = planning_sheet(2, index).bytes;
-            let Err(refusal) = read(&bytes) else {
-                continue;
-            };
-            let Refusal { place, column, .. } = refusal;
-            if refusal.number != MALFORMED {
-                continue;
-            }
-            let line = &bytes[(place - 1) * LINE..place * LINE];
-            let stop = Stop {
-                line,
-                place,
-                column,
-            };
-            for (count, (_, told)) in shown.iter_mut().zip(WRONG_COLUMNS) {
-                *count += usize::from(told(&stop) != column);
-            }
-        }
-        for ((name, _), count) in WRONG_COLUMNS.iter().zip(shown) {
-            println!("{count:>5} sheets: {name}");
-            assert!(count >= 50, "{name}: {count}");
-        }
     }
 }
