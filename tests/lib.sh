@@ -42,6 +42,8 @@ limited() { # SECONDS COMMAND...
     timeout --foreground "$@"
 }
 
+heading() { echo "-- $*"; }
+
 # ---- single tests
 
 # Runs a command with no input. Its output is shown as it comes and kept in $work/out; its exit status is left
@@ -54,7 +56,7 @@ show() { # COMMAND...
 
 # One test: that the command succeeds.
 one_test() { # NAME COMMAND...
-    echo "-- $1"
+    heading "$1"
     name=$1
     shift
     show "$@"
@@ -63,7 +65,7 @@ one_test() { # NAME COMMAND...
 
 # Adds the tests of a command whose last line is 'N passed, M failed'.
 counted() { # NAME COMMAND...
-    echo "-- $1"
+    heading "$1"
     name=$1
     shift
     show "$@"
@@ -84,7 +86,7 @@ add_last_line() { # NAME
 
 # Adds what 'cargo test' says of its tests.
 cargo_tests() { # NAME COMMAND...
-    echo "-- $1"
+    heading "$1"
     name=$1
     shift
     show "$@"
@@ -110,26 +112,13 @@ add_counts() { # NAME PASSED FAILED
 
 archive=target/staticlib/libplanner.a
 
-# The sources that the archive is of, by their stamp, and the archive itself, by its checksum.
-archive_stamp() { cat target/stamp/planner && cksum <"$archive"; }
-
-# Builds the programs and the archive, if they are not those of the sources as they are now. 'rt check' proves
-# what has changed and leaves a stamp; 'rt staticlib' would prove planner again each time.
-build_planner() {
-    rt check plan typed as_sheet || return
-    if [ -f "$archive" ] && [ "$(archive_stamp)" = "$(cat "$archive.stamp")" ]; then return; fi
-    # An earlier archive must not stand for one that could not be built.
-    rm -f "$archive" "$archive.stamp"
-    rt staticlib planner && archive_stamp >"$archive.stamp"
-}
-
 build_comparisons() {
     cargo build --release --locked --package planner-tests --features library
 }
 
 # Builds something that a step cannot do without.
 build() { # NAME COMMAND
-    echo "-- build: $1"
+    heading "build: $1"
     show "$2"
     if [ "$status" -ne 0 ]; then
         fail "$1: not built (exit status $status), so nothing of this step was tried"
@@ -137,9 +126,10 @@ build() { # NAME COMMAND
     fi
 }
 
+# The programs, the archive and the front end of ./planner, as the sources are now.
 need_planner() {
-    need rt
-    build "the archive and the programs" build_planner
+    need rt cargo
+    build "the planner" tools/build
 }
 
 need_comparisons() {

@@ -2,12 +2,8 @@
 # The archive is built; the header compiles and declares the archive's calls
 cd "$(dirname "$0")/../.." && . tests/lib.sh || exit 1
 
-need rt gcc nm
-one_test "the archive and the programs are built" build_planner
-if [ ! -f "$archive" ]; then
-    fail "there is no target/staticlib/libplanner.a, so the header was not held to it"
-    finish
-fi
+need gcc nm
+need_planner
 
 # The calls that the header declares are those that the archive defines.
 same_calls() {

@@ -1,5 +1,5 @@
 #!/bin/sh
-# The papers, the header and the binding against the code, and against each other:
+# The papers, the header and the binding against the code, and against each other
 #
 # - the numbers of the refusals: each has its row in every table, and the same name in C and in Rust
 # - the limits: what is said is what the code has, or follows from it
@@ -8,32 +8,12 @@
 # - the must-fail edits, definitions, theorems and functions that CLAIMS.md names
 # - what is quoted from files, and where links lead
 #
-# The last line is 'N passed, M failed'; the exit status is 0 exactly if M is 0.
-#
 # Backquotes in single quotes are those of the papers.
 # shellcheck disable=SC2016
-set -u
+cd "$(dirname "$0")/../.." && . tests/lib.sh || exit 1
 
-passed=0
-failed=0
-
-finish() {
-    echo "$passed passed, $failed failed"
-    if [ "$failed" -eq 0 ]; then exit 0; else exit 1; fi
-}
-
-step() { echo "-- $*"; }
-
+# There are hundreds of tests: only what fails is shown.
 pass() { passed=$((passed + 1)); }
-
-fail() {
-    echo "FAILED: $*"
-    failed=$((failed + 1))
-}
-
-cd "$(dirname "$0")/../.." || { fail "cannot enter the repository"; finish; }
-work=$(mktemp -d) || { fail "cannot make a temporary folder"; finish; }
-trap 'rm -rf "$work"' EXIT
 
 # That two lists are the same, line by line, and not empty.
 same() { # NAME EXPECTED FOUND
@@ -75,7 +55,7 @@ causes=bindings/rust/src/refusal.rs
 
 # ---- the numbers of the refusals
 
-step "refusals"
+heading "refusals"
 
 # The numbers in the first column of a table.
 rows() { # FILE HEAD
@@ -111,7 +91,7 @@ same "the binding lists other causes than it has" "$work/listed" "$work/found"
 
 # ---- the limits
 
-step "limits"
+heading "limits"
 
 # A constant of the code.
 constant() { # FILE NAME
@@ -217,7 +197,7 @@ done
 
 # ---- the version, and the notes
 
-step "versions and notes"
+heading "versions and notes"
 
 version=$(sed -n 's/^#define COMZSERED_VERSION "\(.*\)"$/\1/p' "$header")
 echo "$version" >"$work/version"
@@ -236,7 +216,7 @@ done
 
 # ---- the crates, and the modules to believe
 
-step "crates"
+heading "crates"
 
 # Lines 'CRATE: DEP DEP'.
 sed 's/#.*//; /:/!d; s/ *$//' crates.txt | sort >"$work/listed"
@@ -271,7 +251,7 @@ same "docs/CLAIMS.md has other modules to believe than specs/Lib.antt" "$work/be
 
 # ---- what CLAIMS.md names
 
-step "claims"
+heading "claims"
 
 for edit in crates/*/must-fail/*.edit; do
     crate=${edit#crates/}
@@ -362,7 +342,7 @@ within "docs/CLAIMS.md names a function that is not there" "$work/found" "$work/
 
 # ---- quotations
 
-step "quotations"
+heading "quotations"
 
 # Each block of CHANGING.md is quoted from the last file that the paragraph before it names.
 awk -v folder="$work" '
@@ -394,7 +374,7 @@ stands "docs/FORMAT.md shows another answer of the sample" tests/runs/typed-0-sa
 
 # ---- links
 
-step "links"
+heading "links"
 
 # The names by which headings are linked to.
 anchors() { sed '/^```/,/^```/d' "$1" | sed -n 's/^##* //p' | tr '[:upper:]' '[:lower:]' | LC_ALL=C sed 's/[^a-z0-9 _-]//g; s/ /-/g'; }

@@ -1,41 +1,18 @@
 #!/bin/sh
-# A package outside the repository that depends on the binding, in each way in which it may name the folder
-# of the archive. The archive itself is built before.
-# The last line is 'N passed, M failed'; the exit status is 0 exactly if M is 0.
-set -u
+# A package outside the repository that depends on the binding, in each way in which it may name the archive's folder
+cd "$(dirname "$0")/../.." && . tests/lib.sh || exit 1
 
-passed=0
-failed=0
-
-finish() {
-    echo "$passed passed, $failed failed"
-    if [ "$failed" -eq 0 ]; then exit 0; else exit 1; fi
-}
-
-fail() {
-    echo "FAILED: $*"
-    failed=$((failed + 1))
-}
-
-cd "$(dirname "$0")/../.." || { fail "cannot enter the repository"; finish; }
+need cargo rustc
+need_planner
 root=$(pwd -P)
-work=$(mktemp -d) || { fail "cannot make a temporary folder"; finish; }
-trap 'rm -rf "$work"' EXIT
-trap 'fail "interrupted"; finish' HUP INT TERM
-
-# The caller's own settings are not meant.
-unset COMZSERED_LIB_DIR
+# The caller's own setting is not meant.
 CARGO_TARGET_DIR=$work/target
 export CARGO_TARGET_DIR
 
 # ---- the package
 
-archive=target/staticlib/libplanner.a
 mkdir -p "$work/lib" "$work/empty" "$work/user/src" "$work/user/.cargo"
-if ! cp "$archive" "$work/lib/"; then
-    fail "there is no $archive, so nothing was tried"
-    finish
-fi
+cp "$archive" "$work/lib/"
 cat >"$work/user/Cargo.toml" <<END
 [package]
 name = "user"
@@ -68,7 +45,7 @@ run() { # FOLDER [NAME=VALUE]...
 answers() { # NAME
     echo "-- $1"
     if [ "$status" -eq 0 ] && [ "$(cat "$work/out")" = "$listing" ]; then
-        passed=$((passed + 1))
+        pass
     else
         cat "$work/out" "$work/err"
         fail "$1: exit status $status"
@@ -79,7 +56,7 @@ answers() { # NAME
 refused() { # NAME WORDS
     echo "-- $1"
     if [ "$status" -ne 0 ] && grep -Fq -e "$2" "$work/err"; then
-        passed=$((passed + 1))
+        pass
     else
         cat "$work/out" "$work/err"
         fail "$1: exit status $status"

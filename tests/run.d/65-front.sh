@@ -1,35 +1,16 @@
 #!/bin/sh
-# ./planner as people call it: each exit status, refusals and answers in words, and what is said when
-# something is missing or fails. Its builds are tried in a copy, with stand-ins for rt and cargo.
-# The last line is 'N passed, M failed'; the exit status is 0 exactly if M is 0.
-set -u
+# ./planner as people call it: each exit status, refusals and answers in words, and what is said when something fails
+#
+# Its builds are tried in a copy, with stand-ins for rt and cargo.
+cd "$(dirname "$0")/../.." && . tests/lib.sh || exit 1
 
-passed=0
-failed=0
-
-# Every way out goes through here, so that the counts are always the last line.
-finish() {
-    echo "$passed passed, $failed failed"
-    if [ "$failed" -eq 0 ]; then exit 0; else exit 1; fi
-}
-
-step() { echo "-- $*"; }
-
-fail() {
-    echo "FAILED: $*"
-    failed=$((failed + 1))
-}
-
-pass() { passed=$((passed + 1)); }
-
-cd "$(dirname "$0")/../.." || { fail "cannot enter the repository"; finish; }
+need rt cargo rustc
 root=$(pwd -P)
-work=$(mktemp -d) || { fail "cannot make a temporary folder"; finish; }
-trap 'rm -rf "$work"' EXIT
-trap 'fail "interrupted"; finish' HUP INT TERM
-
 front=$root/target/cargo/release/planner-front
 sample=examples/sample.sheet
+
+# There are hundreds of tests: only what fails is shown.
+pass() { passed=$((passed + 1)); }
 
 # Runs a command: what it prints is left in $work/out, what it says in $work/said, and its exit status
 # in $status.
@@ -64,10 +45,7 @@ stored() { # FILE
     if diff "$1" "$work/all"; then pass; else fail "$1"; fi
 }
 
-step "the build"
-for tool in rt cargo; do
-    command -v "$tool" >/dev/null || { fail "$tool is not installed"; finish; }
-done
+heading "the build"
 run ./planner "$sample"
 if [ "$status" -ne 0 ]; then
     told "./planner $sample" 0 ''
@@ -76,16 +54,9 @@ fi
 run ./planner "$sample"
 told "a second run" 0 ''
 
-step "unit tests of the front end"
-if cargo test --release --locked --package planner-front >"$work/out" 2>&1; then
-    counts=$(sed -n 's/^test result: ok\. \([0-9]*\) passed; 0 failed;.*/\1/p' "$work/out")
-    if [ "${counts:-0}" -gt 0 ]; then passed=$((passed + counts)); else fail "no unit test was run"; fi
-else
-    cat "$work/out"
-    fail "cargo test"
-fi
+cargo_tests "unit tests of the front end" cargo test --release --locked --package planner-front
 
-step "standard output and exit status, for each stored run"
+heading "standard output and exit status, for each stored run"
 for input in tests/runs/*.sheet tests/runs/*.text; do
     run ./planner "$input"
     printed "$input" "${input%.*}.expected"
@@ -108,7 +79,7 @@ for input in tests/runs/*.text; do
     printed "--as-sheet $input" "$output"
 done
 
-step "refusals in words, with hints"
+heading "refusals in words, with hints"
 for input in tests/front/*.sheet tests/front/*.text; do
     run ./planner "$input"
     stored "$input.said"
@@ -117,7 +88,7 @@ for input in tests/front/*.sheet tests/front/*.text; do
     printed "$input" "$work/direct"
 done
 
-step "answers in words"
+heading "answers in words"
 for words in tests/front/*.words; do
     name=${words##*/}
     run ./planner --words "examples/${name%.words}"
@@ -125,7 +96,7 @@ for words in tests/front/*.words; do
     stored "$words"
 done
 
-step "calls"
+heading "calls"
 for name in sample lane-four; do
     target/bin/typed <"examples/$name.text" >"$work/direct"
     run ./planner "examples/$name.text"
@@ -169,7 +140,7 @@ printed "standard input" "$work/direct"
 sed '$d' tests/front/lane-four.text.words >"$work/direct"
 printed "standard input, typed" "$work/direct"
 
-step "reading and writing that fails"
+heading "reading and writing that fails"
 run ./planner /proc/self/mem
 told "a failed read" 4 "/proc/self/mem cannot be read"
 status=0
@@ -185,7 +156,7 @@ status=0
 ./planner "$sample" >&- 2>"$work/said" || status=$?
 told "a closed standard output" 4 "standard output is closed"
 
-step "programs that fail"
+heading "programs that fail"
 mkdir "$work/bin"
 # Has the front end run this script as the program.
 fake() { # SCRIPT
@@ -226,7 +197,7 @@ else
     pass
 fi
 
-step "at a terminal"
+heading "at a terminal"
 if command -v script >/dev/null; then
     run script -qec "./planner" /dev/null
     cp "$work/out" "$work/said"
@@ -237,7 +208,7 @@ fi
 
 # ---- builds
 
-step "builds"
+heading "builds"
 copy=$work/copy
 mkdir "$copy" "$work/tools" "$work/rt" "$work/cargo"
 cp -R planner tools crates crates.txt bindings front Cargo.toml Cargo.lock .cargo "$copy"
