@@ -43,6 +43,11 @@ counted "the stored runs of typed" stored_runs "$typed" text expected
 counted "the stored runs of as_sheet" stored_runs "$as_sheet" text as-sheet
 one_test "the examples as sheets and as texts" same_listings
 
+failed_reads=target/cargo/release/failed-reads
+counted "plan after failed reads" limited 60 "$failed_reads" "$plan" examples/*.sheet
+counted "typed after failed reads" limited 60 "$failed_reads" "$typed" examples/*.text
+counted "as_sheet after failed reads" limited 60 "$failed_reads" "$as_sheet" examples/*.text
+
 # The runs that end in 9 take the brute force too long.
 counted "plan against the second planner" \
     compare program "$plan" examples/*.sheet tests/runs/[0-8]*.sheet
