@@ -13,11 +13,11 @@ use Rattle.scope.specs.Typed.{Formula, Level, ors, ands, factor, mostText, most
 use Rattle.scope.specs.Parsing.{Around, first, head, nested, operand, after, operandDone, joinedOr, outside}
 use Rattle.words.specs.Entries.{Kept, GatePut}
 use Rattle.words.specs.declared.gate.Gate.{Gate}
-use Rattle.formula.specs.Look.{look, skip}
-use Rattle.formula.specs.Tokens.{Stuck, Came, NumberRead}
+use Rattle.scanner.specs.Look.{look, skip}
+use Rattle.scanner.specs.Tokens.{Stuck, Came, NumberRead}
 use Rattle.formula.specs.declared.parsed.Parsed.{Parsed}
 use Rattle.formula.specs.declared.parsed.Points.{Points}
-use Rattle.formula.specs.declared.token.Token.{Token}
+use Rattle.scanner.specs.declared.token.Token.{Token}
 
 -- ---- a formula and its gates
 

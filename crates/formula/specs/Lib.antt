@@ -1,6 +1,4 @@
 -- steps of the code, which no promise of an exported call names
-pub mod Look
-pub mod Tokens
 pub mod Formulas
 -- proved, for the proofs of the code
 pub mod laws

@@ -1,5 +1,3 @@
-pub mod Walks
-pub mod Tokens
 pub mod Signs
 pub mod Gates
 pub mod Levels

@@ -1,14 +1,14 @@
 // What comes after a formula: a sign, a bracket or a line feed.
 ghost use mathlib.Core.Path.{_≡_};
 ghost use Prim.Native.Nat.{_<_};
-ghost use Rattle.formula.specs.Look as place;
+ghost use Rattle.scanner.specs.Look as place;
 ghost use Rattle.formula.specs.Formulas.{goesOn, operandAt, closedOf, fedOf};
 use crate::parsed::Parsed;
 use crate::parsed::same;
 use crate::parsed::stuck;
-use crate::reader::look;
-use crate::reader::past_byte;
-use crate::reader::skip;
+use scanner::reader::look;
+use scanner::reader::past_byte;
+use scanner::reader::skip;
 
 const CLOSE: u8 = b')';
 

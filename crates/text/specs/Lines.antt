@@ -15,8 +15,8 @@ use Rattle.scope.specs.Parsing.{State, start, ruleLine}
 use Rattle.words.specs.Entries.{Kept}
 use Rattle.words.specs.Tests.{testOf}
 use Rattle.words.specs.Tests as words
-use Rattle.formula.specs.Look.{look}
-use Rattle.formula.specs.Tokens.{Stuck, Came}
+use Rattle.scanner.specs.Look.{look}
+use Rattle.scanner.specs.Tokens.{Stuck, Came}
 use Rattle.formula.specs.declared.parsed.Parsed.{Parsed}
 use Rattle.formula.specs.declared.parsed.Points.{Points}
 use Rattle.text.specs.declared.head.Head.{Head}

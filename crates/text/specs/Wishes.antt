@@ -13,8 +13,8 @@ use Rattle.scope.specs.Text.{bytes}
 use Rattle.scope.specs.Parsing.{State, word, digits, literal, wishLine, wish, ended}
 use Rattle.scope.specs.Words.{literalCode, literalAt}
 use Rattle.words.specs.Tests.{testOf}
-use Rattle.formula.specs.Look.{look}
-use Rattle.formula.specs.Tokens.{Stuck, Came}
+use Rattle.scanner.specs.Look.{look}
+use Rattle.scanner.specs.Tokens.{Stuck, Came}
 use Rattle.formula.specs.declared.parsed.Points.{Points}
 use Rattle.text.specs.declared.lines.Lines.{Lines}
 use Rattle.text.specs.declared.wish.Literals.{Literals}

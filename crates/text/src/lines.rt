@@ -1,7 +1,7 @@
 // What the lines so far say.
 ghost use mathlib.Core.Path.{_≡_};
 ghost use Rattle.text.specs.Lines.{goesOnWith, stuckAt, FirstOf};
-use formula::reader::look;
+use scanner::reader::look;
 
 // the two lines before the first rule
 pub const HEAD_LINES: usize = 2;

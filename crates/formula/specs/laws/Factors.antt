@@ -15,13 +15,13 @@ use Rattle.scope.specs.Parsing as parsing
 use Rattle.scope.specs.Parsing.{Around, line, Slot, digits, zeroOk, numberDone, bracket, first, head, bang, nested, operand, after, operandDone}
 use Rattle.scope.specs.laws.Tests.{clash}
 use Rattle.words.specs.Entries.{Kept}
-use Rattle.formula.specs.Look.{end, look, skip}
-use Rattle.formula.specs.Tokens.{Came}
+use Rattle.scanner.specs.Look.{end, look, skip}
+use Rattle.scanner.specs.Tokens.{Came}
 use Rattle.formula.specs.Formulas.{Built, OrsCome, LevelRead, Numbered, AtomRead, Asked, goesDeeper, notSign, openSign, andSign, orSign, signAt, Ends, gated, Gated, badAt, moved, closedOf}
 use Rattle.formula.specs.declared.parsed.Parsed.{Parsed}
 use Rattle.formula.specs.declared.parsed.Points.{Points}
-use Rattle.formula.specs.declared.token.Token.{Token}
-use Rattle.formula.specs.laws.Walks.{stands, came-came, came-stuck}
+use Rattle.scanner.specs.declared.token.Token.{Token}
+use Rattle.scanner.specs.laws.Walks.{stands, came-came, came-stuck}
 use Rattle.formula.specs.laws.Signs.{skip-least, skip-within, close-walk, close-stuck, not-walk, bracket-walk, not-deep, bracket-deep, switch-walk, fault-walk, operand-stuck}
 use Rattle.formula.specs.laws.Gates.{built-few}
 

@@ -11,12 +11,12 @@ use Prim.Native.Char.{code}
 use Rattle.scope.specs.Typed.{Formula, Level, ors, ands, factor, mostNested, operators}
 use Rattle.scope.specs.Parsing.{Around, first, bar, head, amp, nested, operand, after, operandDone, joinedOr, outside}
 use Rattle.scope.specs.laws.Tests.{clash}
-use Rattle.formula.specs.Look.{end, skip}
-use Rattle.formula.specs.Tokens.{Came}
+use Rattle.scanner.specs.Look.{end, skip}
+use Rattle.scanner.specs.Tokens.{Came}
 use Rattle.formula.specs.Formulas.{OrsCome, LevelRead, Asked, andSign, orSign, signAt, operandAt, goesOn, bytesLeft, Ends, Joined, OrGated, OrsTurn}
 use Rattle.formula.specs.declared.parsed.Parsed.{Parsed}
 use Rattle.formula.specs.declared.parsed.Points.{Points}
-use Rattle.formula.specs.laws.Walks.{stands, came-came, came-stuck}
+use Rattle.scanner.specs.laws.Walks.{stands, came-came, came-stuck}
 use Rattle.formula.specs.laws.Signs.{skip-least, skip-within, and-walk, or-walk}
 use Rattle.formula.specs.laws.Gates.{and-joint, or-joint, level-as, level-more}
 

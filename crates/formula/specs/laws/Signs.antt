@@ -13,10 +13,10 @@ use borrow.Author.Tests.{lt-ltb, le-ltb, eqb-true, eqb-false, eq-eqb, ne-eqb}
 use Rattle.scope.specs.Typed.{Formula, Typed, ands, factor, mostNested}
 use Rattle.scope.specs.Parsing.{Around, line, bracket, first, bar, head, amp, bang, nested, digits, ruleLine, spaced, operand, after, sign, addRule, operandDone, joinedOr, outside, closed, fed, nestedMore, move, step, atEnd, walk}
 use Rattle.scope.specs.Parsing as parsing
-use Rattle.formula.specs.Look.{end, look, skip}
-use Rattle.formula.specs.Tokens.{Stuck, Came}
+use Rattle.scanner.specs.Look.{end, look, skip}
+use Rattle.scanner.specs.Tokens.{Stuck, Came}
 use Rattle.formula.specs.Formulas.{signAt, operandAt, notSign, openSign, andSign, orSign}
-use Rattle.formula.specs.laws.Walks.{stands, came, stops, came-stuck, alike}
+use Rattle.scanner.specs.laws.Walks.{stands, came, stops, came-stuck, alike}
 
 abbrev space : ℕ
 space = code " "

@@ -22,14 +22,14 @@ use Rattle.scope.specs.laws.TypedSheets.{length-gates}
 use Rattle.words.specs.Entries.{RulePut}
 use Rattle.words.specs.Tests.{testOf}
 use Rattle.words.specs.Tests as words
-use Rattle.formula.specs.Look.{end, look, skip}
-use Rattle.formula.specs.Tokens.{Stuck, Came, WordRead, NamedRead}
+use Rattle.scanner.specs.Look.{end, look, skip}
+use Rattle.scanner.specs.Tokens.{Stuck, Came, WordRead, NamedRead}
 use Rattle.formula.specs.Formulas.{LevelRead, OrsCome, Asked, Ends, andSign, orSign, badAt, moved, fedOf}
-use Rattle.formula.specs.laws.Walks.{stands, came-came, came-stuck, alike-within}
+use Rattle.scanner.specs.laws.Walks.{stands, came-came, came-stuck, alike-within}
 use Rattle.formula.specs.laws.Signs.{feed-walk, feed-stuck}
 use Rattle.formula.specs.declared.parsed.Parsed.{Parsed}
 use Rattle.formula.specs.declared.parsed.Points.{Points}
-use Rattle.formula.specs.declared.token.Token.{Token}
+use Rattle.scanner.specs.declared.token.Token.{Token}
 use Rattle.text.specs.Lines.{Faulted, FirstOf, HeadRead, stuckAt, ruleLetter, goesOnWith, NoMore, linesLeft, LinesRead, RulesTold, RulesRead, ruleFault, WithRule}
 use Rattle.text.specs.declared.head.Head.{Head}
 use Rattle.text.specs.declared.lines.Fault.{Fault}

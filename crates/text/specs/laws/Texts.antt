@@ -22,9 +22,9 @@ use Rattle.words.specs.Entries.{HeadPut}
 use Rattle.words.specs.Told.{Fills}
 use Rattle.words.specs.laws.Sheets.{valid-within}
 use Rattle.words.specs.laws.Told.{fills-accepted, fills-refused}
-use Rattle.formula.specs.Look.{look}
-use Rattle.formula.specs.Tokens.{Stuck}
-use Rattle.formula.specs.laws.Walks.{stuck-within, came-stuck, alike}
+use Rattle.scanner.specs.Look.{look}
+use Rattle.scanner.specs.Tokens.{Stuck}
+use Rattle.scanner.specs.laws.Walks.{stuck-within, came-stuck, alike}
 use Rattle.formula.specs.declared.parsed.Points.{Points}
 use Rattle.text.specs.Lines.{HeadTold, HeadLines, stuckAt, ruleLetter, wishLetter, NoMore, LinesRead, RulesTold}
 use Rattle.text.specs.Wishes.{WishesTold, WishesRead}

@@ -23,11 +23,11 @@ use Rattle.scope.specs.laws.Tests.{clash, both}
 use Rattle.scope.specs.laws.Lists.{length-snoc}
 use Rattle.words.specs.Entries.{WishPut}
 use Rattle.words.specs.Tests as words
-use Rattle.formula.specs.Look.{look, past}
-use Rattle.formula.specs.Tokens.{Stuck, Came, WordRead, NamedRead}
-use Rattle.formula.specs.laws.Walks.{stands, past-moved, past-stayed, came, stops, came-came, came-stuck, alike, alike-within}
+use Rattle.scanner.specs.Look.{look, past}
+use Rattle.scanner.specs.Tokens.{Stuck, Came, WordRead, NamedRead}
+use Rattle.scanner.specs.laws.Walks.{stands, past-moved, past-stayed, came, stops, came-came, came-stuck, alike, alike-within}
 use Rattle.formula.specs.declared.parsed.Points.{Points}
-use Rattle.formula.specs.declared.token.Token.{Token}
+use Rattle.scanner.specs.declared.token.Token.{Token}
 use Rattle.text.specs.Lines.{stuckAt, wishLetter}
 use Rattle.text.specs.Wishes.{noLiterals, Codes, WithLiteral, oneLiteral, named, LiteralRead, moreLiterals, literalsLeft, LiteralsRead, WishesTold, WishesRead, wishFault, WithWish}
 use Rattle.text.specs.declared.lines.Lines.{Lines}

@@ -10,7 +10,7 @@ use denote.Ref.{now}
 use borrow.Author.Needs.{needs}
 use Rattle.scope.specs.Typed.{ands}
 use Rattle.formula.specs.Formulas.{LevelRead, OrsTurn, bytesLeft, andSign, orSign}
-use Rattle.formula.specs.laws.Walks.{stands}
+use Rattle.scanner.specs.laws.Walks.{stands}
 use Rattle.formula.specs.laws.Levels.{goes-ends, sign-stands, operand-asked, less-left, ands-first, ands-more, turn-begins, turn-read, turn-ends, turn-next, turn-less}
 use Rattle.formula.specs.laws.Factors.{deeper-byte, deeper-open, inner-asked, too-deep, not-read, bracket-read}
 use borrow.Fn.Kinds.{In}
@@ -31,8 +31,8 @@ use Rattle.formula.proofs.parsed.or_gate.Reads as or-gate-reads
 use Rattle.formula.proofs.parsed.same.Reads as same-reads
 use Rattle.formula.proofs.parsed.stuck.Reads as stuck-reads
 use Rattle.formula.proofs.parsed.with_gate.Reads as with-gate-reads
-use Rattle.formula.proofs.reader.look.Reads as look-reads
-use Rattle.formula.proofs.reader.skip.Reads as skip-reads
+use Rattle.scanner.proofs.reader.look.Reads as look-reads
+use Rattle.scanner.proofs.reader.skip.Reads as skip-reads
 use Rattle.formula.proofs.sign.closed.Reads as closed-reads
 use Rattle.formula.proofs.sign.goes_on.Reads as goes-on-reads
 use Rattle.formula.proofs.sign.operand_at.Reads as operand-at-reads

@@ -2,7 +2,7 @@
 use mathlib.Core.Path.{sym, _∙_}
 use native.Mathlib.Omega.{arith}
 use denote.Ref.{now}
-use Rattle.formula.specs.laws.Walks.{stands}
+use Rattle.scanner.specs.laws.Walks.{stands}
 use Rattle.formula.specs.laws.Factors.{switch-read, fault-read, no-atom}
 use borrow.Author.Needs.{needs}
 use Rattle.formula.proofs.level.atom.Statement.{statement}

@@ -5,9 +5,9 @@ use native.Mathlib.Omega.{arith}
 use denote.Ref.{now}
 use borrow.Author.Needs.{needs}
 use borrow.Author.Tests.{eq-eqb, ne-eqb}
-use Rattle.formula.specs.Look.{look}
+use Rattle.scanner.specs.Look.{look}
 use Rattle.formula.specs.Formulas.{fedOf}
-use Rattle.formula.specs.laws.Walks.{past-moved, past-stayed}
+use Rattle.scanner.specs.laws.Walks.{past-moved, past-stayed}
 use Rattle.formula.proofs.sign.fed.Statement.{statement}
 use Rattle.formula.proofs.sign.fed.Tie as tie
 

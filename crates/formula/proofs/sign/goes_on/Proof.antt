@@ -1,5 +1,5 @@
 -- `sign::goes_on` meets its contract: after a bad formula no sign comes, and else the byte at the next significant place is compared.
-use Rattle.formula.specs.Look.{look}
+use Rattle.scanner.specs.Look.{look}
 use Rattle.formula.specs.Formulas.{goesOn}
 use borrow.Author.Needs.{needs}
 use Rattle.formula.proofs.sign.goes_on.Statement.{statement}

@@ -1,8 +1,8 @@
 -- `sign::operand_at` meets its contract: the sign stands in the text, so the place after it is a number, and from there one space is skipped.
 use native.Mathlib.Omega.{arith}
 use denote.Ref.{now}
-use Rattle.formula.specs.Look.{skip}
-use Rattle.formula.specs.laws.Walks.{stands}
+use Rattle.scanner.specs.Look.{skip}
+use Rattle.scanner.specs.laws.Walks.{stands}
 use borrow.Author.Needs.{needs}
 use Rattle.formula.proofs.sign.operand_at.Statement.{statement}
 use Rattle.formula.proofs.sign.operand_at.Tie as tie

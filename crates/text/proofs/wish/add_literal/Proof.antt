@@ -4,7 +4,7 @@ use mathlib.Core.List.{[], _∷_}
 use native.Mathlib.Omega.{arith}
 use denote.Ref.{now}
 use borrow.Author.Needs.{needs}
-use Rattle.formula.specs.laws.Walks.{past-within}
+use Rattle.scanner.specs.laws.Walks.{past-within}
 use Rattle.text.specs.laws.Wishes.{begun-literal}
 use Rattle.text.proofs.wish.add_literal.Statement.{statement}
 use Rattle.text.proofs.wish.add_literal.Tie as tie
