@@ -12,7 +12,7 @@ ghost use Rattle.line.specs.Lines.{letterFrom, numbersFrom, lineFrom};
 ghost use Rattle.words.specs.Tests.{Fault};
 ghost use Rattle.causes.specs.Counts.{Counted, Few};
 use crate::allowed;
-use line::field::Number;
+use field::Number;
 use line::line::Letter;
 use line::line::Line;
 use line::line::MOST_FIELDS;

@@ -1,8 +1,4 @@
--- steps of the code, which no promise of an exported call names: reading
-pub mod Columns
+-- steps of the code, which no promise of an exported call names
 pub mod Lines
--- and printing
-pub mod Put
-pub mod Fields
 -- proved, for the layers above
 pub mod laws

@@ -11,8 +11,8 @@ use Rattle.scope.specs.Sheet as scope
 use Rattle.scope.specs.Sheet.{fieldSize}
 use Rattle.scope.specs.Reading.{when, fieldsOf, joined, lineOf, columnOf}
 use Rattle.scope.specs.laws.Beginnings.{Stop, fieldsBegin}
-use Rattle.line.specs.Columns.{numberFrom}
-use Rattle.line.specs.declared.field.Number.{Number}
+use Rattle.field.specs.Columns.{numberFrom}
+use Rattle.field.specs.declared.Number.{Number}
 use Rattle.line.specs.declared.line.Letter.{Letter}
 use Rattle.line.specs.declared.line.Letter.the-variants.{Head, Not, And, Or, Rule, Wish, End, Unknown}
 use Rattle.line.specs.declared.line.Fields.{Fields}

@@ -6,7 +6,7 @@ use lib.ListN.{length, getD, take}
 use Rattle.scope.specs.Sheet.{fieldsBytes}
 use Rattle.scope.specs.Causes.{lineSize}
 use Rattle.scope.specs.Program.{outputFields, Row, rowsBytes, each}
-use Rattle.line.specs.Put.{put}
+use Rattle.field.specs.Put.{put}
 
 abbrev pub rowSize : ℕ
 rowSize = lineSize outputFields

@@ -4,10 +4,10 @@ ghost use mathlib.Core.Path.{_≡_};
 ghost use Prim.Native.Nat.{_+_, _≤_, _<_};
 ghost use lib.ListN.{length};
 ghost use Rattle.scope.specs.Sheet.{plus, fieldsBytes};
-ghost use Rattle.line.specs.Put.{put};
+ghost use Rattle.field.specs.Put.{put};
 ghost use Rattle.listing.specs.Rows.{rowSize, fieldEnd};
-use line::field::FIELD_SIZE;
-use line::field::plain;
+use field::FIELD_SIZE;
+use field::plain;
 use line::line::put_line;
 
 const ROW_FIELDS: usize = 3;

@@ -12,7 +12,7 @@ ghost use Rattle.words.specs.Told.{Fills};
 ghost use Rattle.line.specs.Lines.{letterFrom, numbersFrom};
 ghost use Rattle.sheet.specs.Steps.{AreLiterals, Suited, Takes, Sized};
 use causes::line_fault;
-use line::field::Number;
+use field::Number;
 use line::line::FIELD_COUNT;
 use line::line::Letter;
 use line::line::MOST_FIELDS;

@@ -8,7 +8,7 @@ ghost use Rattle.scope.specs.Sheet.{fieldCount, sheetBytes, Valid};
 ghost use Rattle.scope.specs.Causes.{lineSize};
 ghost use Rattle.scope.specs.Words.{held};
 ghost use Rattle.scope.specs.Writing.{TablesRead, written, IsWritten};
-ghost use Rattle.line.specs.Put.{put};
+ghost use Rattle.field.specs.Put.{put};
 ghost use Rattle.words.specs.Told.{told};
 ghost use Rattle.writer.specs.Returned.{writtenFrom};
 use crate::entries::line_count;

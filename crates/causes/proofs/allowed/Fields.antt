@@ -10,9 +10,9 @@ use lib.Seq.{drop-cons}
 use Rattle.scope.specs.Sheet as scope
 use Rattle.scope.specs.Sheet.{plus}
 use Rattle.scope.specs.Causes.{is, literal, zeros, literals, at}
-use Rattle.line.specs.Columns.{numberFrom}
+use Rattle.field.specs.Columns.{numberFrom}
 use Rattle.line.specs.Lines.{numbersFrom}
-use Rattle.line.specs.declared.field.Number.{Number}
+use Rattle.field.specs.declared.Number.{Number}
 use Rattle.line.specs.laws.Numbers.{length-numbers}
 
 module _ (n i : ℕ) (xs : List Number) (l : n ≤ length xs) where

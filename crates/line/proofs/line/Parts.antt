@@ -20,10 +20,10 @@ use Rattle.scope.specs.laws.Scans.{wellFormed}
 use Rattle.scope.specs.laws.Beginnings.{some-formed, fieldBegins, fieldsBegin, Stop, field-stop, rest-stop, end-stop, letter-stop, after-letter, stop-column, column-is}
 use Rattle.scope.specs.laws.Lists.{part-length}
 use Rattle.scope.specs.laws.Lines.{line-iff}
-use Rattle.line.specs.Columns.{numberFrom, fieldFrom, FieldRead}
+use Rattle.field.specs.Columns.{numberFrom, fieldFrom, FieldRead}
 use Rattle.line.specs.Lines.{numbersFrom, fieldsFrom, FieldsRead, letterFrom, lineFrom, lineColumn, LineRead}
-use Rattle.line.specs.declared.field.Number.{Number}
-use Rattle.line.specs.declared.field.Field.{Field}
+use Rattle.field.specs.declared.Number.{Number}
+use Rattle.field.specs.declared.Field.{Field}
 use Rattle.line.specs.declared.line.Letter.{Letter}
 use Rattle.line.specs.declared.line.Fields.{Fields}
 use borrow.Author.Tests.{eq-eqb, ne-eqb}

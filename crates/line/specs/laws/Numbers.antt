@@ -8,9 +8,9 @@ use lib.ListN.{length, getD, take, length-map, List·getD-map}
 use lib.Seq.{length-take-le, take-take, getD-take}
 use Rattle.scope.specs.Sheet.{plus}
 use Rattle.scope.specs.Causes.{at}
-use Rattle.line.specs.Columns.{numberFrom}
+use Rattle.field.specs.Columns.{numberFrom}
 use Rattle.line.specs.Lines.{numbersFrom}
-use Rattle.line.specs.declared.field.Number.{Number}
+use Rattle.field.specs.declared.Number.{Number}
 
 pub at-numbers : (n i : ℕ) (xs : List Number) → i < n → numberFrom (getD xs i (record { minus = false; size = 0 })) ≡ at (numbersFrom n xs) i
 unfolding numbersFrom

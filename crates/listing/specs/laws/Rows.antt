@@ -13,10 +13,10 @@ use Rattle.scope.specs.Jobs.{over}
 use Rattle.scope.specs.Program.{outputFields, Row, row, rowsBytes, each}
 use Rattle.scope.specs.laws.Lines.{length-fields}
 use Rattle.scope.specs.laws.Outputs.{row-fits}
-use Rattle.line.specs.Columns.{numberFrom}
+use Rattle.field.specs.Columns.{numberFrom}
 use Rattle.line.specs.Lines.{numbersFrom}
-use Rattle.line.specs.declared.field.Number.{Number}
-use Rattle.line.specs.Put.{put, put-nothing, put-next}
+use Rattle.field.specs.declared.Number.{Number}
+use Rattle.field.specs.Put.{put, put-nothing, put-next}
 use Rattle.listing.specs.Rows.{rowSize, rowBytes, fieldEnd, Wrote, Put}
 
 -- ---- a row

@@ -12,9 +12,9 @@ use Rattle.scope.specs.Causes.{is, literal, zeros, literals, clause, at}
 use Rattle.scope.specs.laws.Tests.{both}
 use Rattle.scope.specs.laws.Steps.{is-plus}
 use Rattle.scope.specs.Words.{literalCode, literalAt, wishWords}
-use Rattle.line.specs.Columns.{numberFrom}
+use Rattle.field.specs.Columns.{numberFrom}
 use Rattle.sheet.specs.Steps.{AreLiterals}
-use Rattle.line.specs.declared.field.Number as made
+use Rattle.field.specs.declared.Number as made
 
 zeros-at : (xs : List Number) (i : ℕ) → zeros xs ≡ true → plus 0 ≡ at xs i
 unfolding zeros

@@ -25,7 +25,7 @@ use Rattle.scope.specs.laws.TableReads.{written-in, left-out}
 use Rattle.words.specs.Told.{told}
 use Rattle.words.specs.declared.refusal.Cause.{Cause}
 use Rattle.line.specs.Lines.{numbersFrom}
-use Rattle.line.specs.Put.{put, put-nothing, put-next}
+use Rattle.field.specs.Put.{put, put-nothing, put-next}
 use Rattle.writer.specs.Entries.{beforeEnd}
 use Rattle.writer.specs.Rows.{Stands, lineAt}
 use Rattle.writer.specs.declared.rows.Row.{Row}

@@ -8,9 +8,9 @@ use mathlib.Core.Path.{_≡_, refl, sym, ap, subst}
 use Rattle.scope.specs.Sheet.{Number, plus, Letter, N, A, O, W, Line, line, letterByte, filled, gateLine, wishLine}
 use Rattle.scope.specs.Sheet as scope
 use Rattle.scope.specs.Words.{gateWords, literalFrom}
-use Rattle.line.specs.Columns.{numberFrom}
+use Rattle.field.specs.Columns.{numberFrom}
 use Rattle.line.specs.Lines.{numbersFrom}
-use Rattle.line.specs.declared.field.Number as field
+use Rattle.field.specs.declared.Number as field
 use Rattle.words.specs.Entries.{clauseFrom}
 use Rattle.words.specs.declared.wish.Wish.{Wish}
 use Rattle.writer.specs.Rows.{Stands, Is}

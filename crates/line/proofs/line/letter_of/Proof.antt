@@ -1,12 +1,13 @@
 -- The definition compares the byte with the letters in the order of the code, so the branch taken decides its tests.
 use Rattle.scope.specs.Reading.{letterOf}
-use Rattle.line.proofs.Rules.{tests}
+use borrow.Author.Needs.{needs}
+use borrow.Author.Tests.{eq-eqb, ne-eqb}
 use Rattle.line.proofs.line.letter_of.Statement.{statement}
 use Rattle.line.proofs.line.letter_of.Tie as tie
 
 returns : tie.Need-returns
 unfolding letterOf
-returns c = search tests
+returns c = search (needs, eq-eqb)
 
 returns-2 : tie.Need-returns-2
 unfolding letterOf
@@ -34,7 +35,7 @@ returns-7 c = rw (c .match .keys7)
 
 returns-8 : tie.Need-returns-8
 unfolding letterOf
-returns-8 c = search tests
+returns-8 c = search (needs, ne-eqb)
 
 pub letter-of-spec : {M : Type 1} → statement M
 letter-of-spec =

@@ -1,7 +1,7 @@
 -- Setting a byte is putting it there.
 -- Assumes nothing.
 use borrow.Author.Needs.{needs}
-use Rattle.line.specs.Put.{put-byte}
+use Rattle.field.specs.Put.{put-byte}
 use Rattle.line.proofs.line.put_byte.Statement.{statement}
 use Rattle.line.proofs.line.put_byte.Tie as tie
 

@@ -6,7 +6,7 @@ use native.Mathlib.Numerals.{add-one}
 use native.Mathlib.Omega.{arith}
 use lib.ListN.{length}
 use lib.Seq.{paste, paste-zero, paste-suc, length-paste}
-use Rattle.line.specs.Put.{all-put}
+use Rattle.field.specs.Put.{all-put}
 use borrow.Author.Needs.{needs}
 use Rattle.line.proofs.line.put_columns.Statement.{statement}
 use Rattle.line.proofs.line.put_columns.Tie as tie

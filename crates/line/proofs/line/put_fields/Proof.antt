@@ -11,8 +11,8 @@ use Rattle.scope.specs.Sheet.{plus, fits}
 use Rattle.scope.specs.laws.Alls.{all-at}
 use Rattle.line.specs.Lines.{numbersFrom}
 use Rattle.line.specs.laws.Numbers.{length-numbers}
-use Rattle.line.specs.Put.{put, put-nothing}
-use Rattle.line.specs.Fields.{fieldsFront, next-field}
+use Rattle.field.specs.Put.{put, put-nothing}
+use Rattle.field.specs.Fields.{fieldsFront, next-field}
 use Rattle.line.proofs.line.put_fields.Statement.{statement}
 use Rattle.line.proofs.line.put_fields.Tie as tie
 

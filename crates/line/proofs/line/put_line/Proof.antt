@@ -6,7 +6,7 @@ use lib.ListN.{length}
 use borrow.Author.Needs.{needs}
 use Rattle.line.specs.Lines.{numbersFrom}
 use Rattle.line.specs.laws.Numbers.{length-numbers}
-use Rattle.line.specs.Fields.{line-put}
+use Rattle.field.specs.Fields.{line-put}
 use Rattle.line.proofs.line.put_line.Statement.{statement}
 use Rattle.line.proofs.line.put_line.Tie as tie
 

@@ -1,6 +1,6 @@
 -- The first k lines stand at the beginning of the buffer, and each turn puts the next one behind them.
 use Prim.Native.Nat.{_+_, _-_, _*_, _≤_}
-use Rattle.line.specs.Put.{put}
+use Rattle.field.specs.Put.{put}
 use Rattle.scope.specs.Sheet.{text, sheetLines}
 use Rattle.scope.specs.Words.{held}
 use Rattle.writer.specs.laws.Printed.{few-lines, numbers-fit, row-bytes, line-room, line-good, none-put, next-put, all-put}
