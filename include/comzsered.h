@@ -127,6 +127,7 @@
  *     every case; those that the outcome does not name are 0.
  *   - Buffers and tables do not overlap each other or the figures. What a call takes as const is only
  *     read.
+ *   - A call needs at most COMZSERED_STACK bytes of stack, and takes no memory from elsewhere.
  *   - The time grows with 2^a and 2^f: a sheet with many switches and faults may take very long.
  *     Reading and writing take a time that grows with the bytes alone.
  */
@@ -185,6 +186,14 @@ typedef enum comzsered_number {
 
 /* The longest listing: 4,182 lines of 17 bytes. */
 #define COMZSERED_LISTING_MAX 71094
+
+/*
+ * The stack that a call needs at most, in bytes. This is measured, not proved: the stack below a call was
+ * painted, and the lowest changed word sought after it. Most was used by listing, 54,864 bytes on a chain of
+ * 400 gates of which each names the one before first, and 38,368 by any other call; the rest is margin. The
+ * tests make all their calls on threads with this stack.
+ */
+#define COMZSERED_STACK 65536
 
 /*
  * Answer: the best sound plan of a sheet.

@@ -1,13 +1,16 @@
-//! How much of one sheet is tried. The proved search tries every plan on every listed pattern in
-//! each round, so the work on a sheet can be told beforehand, in gates worked out at most.
+//! How much of one sheet is tried. The proved search goes through all plans in each round, so the work on a sheet
+//! can be told beforehand, in gates worked out and wishes looked at.
 
 use crate::oracle::Sheet;
 use crate::planning::tree;
 
-/// The part of the budget that one Answer may take.
+/// The part of the budget that one Answer may take, by what it takes at most and as a rule.
 const ANSWER_PART: u64 = 4;
+const ANSWER_PART_AS_A_RULE: u64 = 2;
 /// No list is longer than this: sheets with more patterns get less room.
 const LONGEST: usize = 1_100;
+/// The gates worked out for a plan as a rule: most plans are left for their cost, or at the first rule.
+const FEW_GATES: u64 = 16;
 
 /// What is left of a sheet's budget.
 pub struct Effort {
@@ -17,25 +20,40 @@ pub struct Effort {
     patterns: u64,
     /// The gates for one plan and one pattern.
     tree: u64,
-    /// The wishes compared with each other for one plan's cost.
+    /// The wishes looked at for one plan's cost.
     wishes: u64,
+    /// Whether the work is taken as it is at most, or as a rule.
+    at_most: bool,
 }
 
 impl Effort {
-    pub fn new(sheet: &Sheet, budget: u64) -> Effort {
-        let wishes = sheet.wishes.len() as u64;
+    /// By what a search takes at most: each plan passes all patterns but the last.
+    pub fn at_most(sheet: &Sheet, budget: u64) -> Effort {
         Effort {
             left: budget,
             budget,
             plans: 1 << sheet.switches,
             patterns: 1 << sheet.faults,
             tree: tree(sheet),
-            wishes: wishes * wishes / 2 + 1,
+            wishes: sheet.wishes.len() as u64 + 1,
+            at_most: true,
+        }
+    }
+
+    /// By what a search takes as a rule.
+    pub fn as_a_rule(sheet: &Sheet, budget: u64) -> Effort {
+        Effort {
+            at_most: false,
+            ..Effort::at_most(sheet, budget)
         }
     }
 
     fn short_run(&self, patterns: u64) -> u64 {
-        self.plans * (self.wishes + self.tree * patterns)
+        let gates = match self.at_most {
+            true => self.tree * patterns,
+            false => self.tree.min(FEW_GATES),
+        };
+        self.plans * (self.wishes + gates)
     }
 
     fn rating(&self) -> u64 {
@@ -45,12 +63,19 @@ impl Effort {
     /// All rounds until the list has this length.
     fn answer(&self, length: u64) -> u64 {
         let rounds = length + 1;
-        rounds * (self.short_run(length) / 2 + self.rating())
+        match self.at_most {
+            true => rounds * (self.short_run(length) / 2 + self.rating()),
+            // Only the last candidate is tried on all patterns.
+            false => rounds * self.short_run(length) + self.rating(),
+        }
     }
 
     /// The longest list that an Answer may make, so that its work stays within its part.
     pub fn longest_list(&self) -> usize {
-        let part = self.budget / ANSWER_PART;
+        let part = match self.at_most {
+            true => self.budget / ANSWER_PART,
+            false => self.budget / ANSWER_PART_AS_A_RULE,
+        };
         (1..=LONGEST)
             .take_while(|&length| self.answer(length as u64) <= part)
             .last()
@@ -72,10 +97,10 @@ impl Effort {
         self.afford(work)
     }
 
-    /// A short run, and the rating of its plan.
+    /// A short run, and the rating of its plan, which as a rule is not sound.
     pub fn afford_short_run(&mut self, patterns: usize) -> bool {
-        let work = self.short_run(patterns as u64) + self.rating();
-        self.afford(work)
+        let rating = if self.at_most { self.rating() } else { 0 };
+        self.afford(self.short_run(patterns as u64) + rating)
     }
 
     pub fn can_afford_beginnings(&self, length: usize) -> bool {
@@ -96,12 +121,19 @@ mod tests {
     #[test]
     fn a_larger_budget_allows_more() {
         let sheet = read(&sheet("H 4 4; O 1 5; O 9 2; R 10; W -1; Z 5")).unwrap();
-        let longest = |budget| Effort::new(&sheet, budget).longest_list();
+        let longest = |budget| Effort::at_most(&sheet, budget).longest_list();
         assert_eq!(longest(0), 1);
         assert!(longest(100_000) < longest(1_000_000));
         assert_eq!(longest(u64::MAX), LONGEST);
-        let mut effort = Effort::new(&sheet, 3_000);
+        let mut effort = Effort::at_most(&sheet, 3_000);
         let afforded = (0..100).filter(|_| effort.afford_short_run(2)).count();
         assert!(0 < afforded && afforded < 100, "{afforded}");
+    }
+
+    #[test]
+    fn as_a_rule_less_is_taken() {
+        let sheet = read(&sheet("H 4 4; O 1 5; O 9 2; R 10; W -1; Z 5")).unwrap();
+        let at_most = Effort::at_most(&sheet, 100_000).longest_list();
+        assert!(at_most < Effort::as_a_rule(&sheet, 100_000).longest_list());
     }
 }

@@ -2,11 +2,14 @@
 //! and generators of sheets, texts and tables.
 
 pub mod brute;
+pub mod cases;
 #[cfg(feature = "library")]
 mod convert;
+pub mod counts;
 pub mod effort;
 pub mod form;
 pub mod generate;
+pub mod limits;
 pub mod malformed;
 pub mod options;
 pub mod oracle;
@@ -14,6 +17,7 @@ pub mod planning;
 pub mod process;
 pub mod reading;
 pub mod shrink;
+pub mod stack;
 pub mod tables;
 pub mod typed;
 pub mod workers;

@@ -5,7 +5,8 @@ use std::thread;
 
 /// The threads at most.
 const WORKERS: usize = 2;
-/// The stack of each: what a program's main thread usually has.
+/// The stack of each: what a program's main thread usually has. Generators and second readers go deep; the
+/// library is called on threads with less, see `stack`.
 const STACK: usize = 8 << 20;
 
 /// Does the jobs 0, 1, 2 and so on, until one of them says that there is no need to go on.

@@ -1,59 +1,51 @@
 //! Compares the proved library's writer with the second one: many tables, right and damaged, each with
 //! many lengths of the buffer, and both ways round between tables and sheets.
 //!
-//! Usage: compare-writer [--seconds T] [--count N] [--seed S] [--index I] [--trace 1]
+//! Usage: compare-writer [--count N] [--seconds T] [--seed S] [--index I] [--trace 1]
 //!
-//! It stops after N tables or T seconds, whichever comes first. Without --seed it takes the tables of
-//! all fixed seeds and of a fresh one in turn. With --index it tries those tables of each seed alone
-//! and shows them. With --trace tables are named before they are tried: so those that the library
-//! does not survive can be found.
+//! See `cases.rs` for the options.
 
 use std::collections::BTreeMap;
 use std::hint::black_box;
 use std::process::ExitCode;
-use std::time::{Duration, Instant};
 
 use comzsered::figures::{self, Words};
 use comzsered::Sheet;
 use planner_tests::brute::{NO_PLAN, NO_ROOM};
+use planner_tests::cases::{self, Cases};
+use planner_tests::counts::TABLES;
 use planner_tests::generate::Random;
 use planner_tests::options::{ended, misused, Options};
 use planner_tests::oracle::{self, BAD_FIELD, BAD_SIZE, MAX_BYTES, TOO_MANY};
 use planner_tests::planning::light;
+use planner_tests::shrink::shrunk;
+use planner_tests::stack::on_stated_stack;
 use planner_tests::tables::Tables;
 use planner_tests::writing::check::{Trial, GUARD};
 use planner_tests::writing::generate::{kinds, made_tables, Made};
-use planner_tests::writing::{cases, put, sheet, Written, TOO_SHORT};
+use planner_tests::writing::{self, put, sheet, Outcome, Written, TOO_SHORT};
 
-/// Tables and seconds at most, unless the options say otherwise.
-const TABLES: u64 = 80_000;
-const SECONDS: u64 = 60;
-/// Fewer tables than this, without options, are a failure: the machine or the library is too slow for
-/// the comparison to say much.
-const FEWEST: u64 = 10_000;
-const STOP_AFTER: u64 = 20;
 /// The switches and faults of the sheets that are answered at most: others take too long here.
 const ANSWERED: u32 = 8;
 
-const USAGE: &str =
-    "usage: compare-writer [--seconds T] [--count N] [--seed S] [--index I] [--trace 1]";
-
 fn main() -> ExitCode {
-    let names = ["--seconds", "--count", "--seed", "--index", "--trace"];
-    let options = Options::from_command_line(&names).filter(|o| o.words.is_empty());
+    let options = Options::from_command_line(&cases::OPTIONS).filter(|o| o.words.is_empty());
     let Some(options) = options else {
-        return misused(USAGE);
+        return misused(&format!("usage: compare-writer {}", cases::USAGE));
     };
-    let mut total = Total::default();
-    by_hand(&mut total);
-    match options.number("--index") {
-        Some(index) => {
-            for seed in options.seeds() {
-                println!("{}", described(seed, index));
-                try_tables(seed, index, &mut total);
-            }
+    let mut total = on_stated_stack(by_hand);
+    let cases = Cases::asked(&options, TABLES);
+    let single = cases.single();
+    let all = cases.each(
+        |seed, index| try_made(seed, index, single),
+        |tried| total.add(tried),
+    );
+    total.show();
+    if all {
+        for text in total.too_rare() {
+            println!("FAIL: {text}");
+            total.failed += 1;
         }
-        None => many_tables(&options, &mut total),
     }
     ended(total.passed, total.failed)
 }
@@ -73,22 +65,32 @@ struct Total {
 }
 
 impl Total {
-    fn count(&mut self, trouble: Option<&str>, name: impl FnOnce() -> String) {
-        match trouble {
-            None => self.passed += 1,
-            Some(text) => {
-                println!("FAIL: {}\n{text}", name());
-                self.failed += 1;
-            }
+    fn count(&mut self, ok: bool) {
+        if ok {
+            self.passed += 1;
+        } else {
+            self.failed += 1;
         }
+    }
+
+    /// Adds some tables. Returns how many have failed so far.
+    fn add(&mut self, tried: Tried) -> u64 {
+        for (number, came) in tried.numbers {
+            *self.numbers.entry(number).or_default() += came;
+        }
+        *self.outcomes.entry(tried.outcome).or_default() += 1;
+        *self.recipes.entry(tried.recipe).or_default() += 1;
+        self.answered += u64::from(tried.answered);
+        self.count(tried.trouble.is_none());
+        self.failed
     }
 }
 
-// ---- tables with outcomes worked out by hand
-
-fn by_hand(total: &mut Total) {
+/// Tables with outcomes worked out by hand.
+fn by_hand() -> Total {
     const FILLING: u8 = b'?';
-    for case in cases::all() {
+    let mut total = Total::default();
+    for case in writing::cases::all() {
         let guard = [FILLING; GUARD];
         let expected = (
             case.written(),
@@ -99,20 +101,22 @@ fn by_hand(total: &mut Total) {
         let library = lent(&expected.1, FILLING, |out| {
             figures::write(&words, out).into()
         });
-        let trouble = [("the second writer", second), ("the library", library)]
-            .iter()
-            .filter(|(_, got)| *got != expected)
-            .map(|(who, (figures, out))| {
-                let shown = out.escape_ascii();
-                format!("  {who}: {figures:?} {shown}\n  by hand: {:?}", expected.0)
-            })
-            .reduce(|all, next| all + "\n" + &next);
         let name = format!("{}, room {}", case.why, case.room);
-        if trouble.is_none() {
+        let mut ok = true;
+        for (who, got) in [("the second writer", second), ("the library", library)] {
+            if got != expected {
+                let (figures, out) = (got.0, got.1.escape_ascii());
+                println!("FAIL: {name}\n  {who}: {figures:?} {out}");
+                println!("  by hand: {:?}", expected.0);
+                ok = false;
+            }
+        }
+        if ok {
             println!("{name}: ok");
         }
-        total.count(trouble.as_deref(), || name);
+        total.count(ok);
     }
+    total
 }
 
 /// Lends a buffer, filled with this byte, within memory as long as this one. Returns what is told of
@@ -125,77 +129,83 @@ fn lent(like: &[u8], filling: u8, writer: impl FnOnce(&mut [u8]) -> Written) -> 
 
 // ---- generated tables
 
-fn many_tables(options: &Options, total: &mut Total) {
-    let seeds = options.seeds();
-    let most = options.number("--count").unwrap_or(TABLES);
-    let seconds = options.number("--seconds").unwrap_or(SECONDS);
-    let trace = options.number("--trace").is_some();
-    let began = Instant::now();
-    let end = began + Duration::from_secs(seconds);
-    let mut tried = 0;
-    while tried < most && total.failed < STOP_AFTER && Instant::now() < end {
-        let seed = seeds[(tried % seeds.len() as u64) as usize];
-        let index = tried / seeds.len() as u64;
-        if trace {
-            println!("seed {seed}, index {index}");
-        }
-        try_tables(seed, index, total);
-        tried += 1;
-    }
-    let calls: u64 = total.numbers.values().sum();
-    println!(
-        "{tried} tables, written {calls} times in {:.1} seconds",
-        began.elapsed().as_secs_f64()
-    );
-    total.show();
-    if total.failed >= STOP_AFTER {
-        println!("stopped after {} failures", total.failed);
-        return;
-    }
-    if options.number("--seed").is_some() || options.number("--count").is_some() {
-        return;
-    }
-    if tried < FEWEST {
-        println!("FAIL: fewer than {FEWEST} tables were tried");
-        total.failed += 1;
-        return;
-    }
-    for text in total.too_rare() {
-        println!("FAIL: {text}");
-        total.failed += 1;
-    }
+/// What came of some tables.
+struct Tried {
+    recipe: &'static str,
+    outcome: String,
+    /// The writings with each number.
+    numbers: BTreeMap<u32, u64>,
+    answered: bool,
+    trouble: Option<String>,
 }
 
-/// Everything that is tried with the tables of this seed and index.
-fn try_tables(seed: u64, index: u64, total: &mut Total) {
+/// The tables of this seed and index. If they fail, or are looked at alone, they are shown.
+fn try_made(seed: u64, index: u64, single: bool) -> Tried {
+    let r = || Random::new(!seed, index);
     let made = made_tables(seed, index);
-    // Not the numbers that the tables were made from.
-    let trial = Trial::new(&mut Random::new(!seed, index), &made.tables);
-    let words = Words::from(&made.tables);
-    let numbers = &mut total.numbers;
-    let mut trouble = trial.differs(&mut |out| {
-        let got = figures::write(&words, out);
-        *numbers.entry(got.number).or_default() += 1;
-        got.into()
-    });
-    if trouble.is_none() && Tables::from(black_box(&words)) != made.tables {
-        trouble = Some("the tables were changed".into());
+    let tried = try_tables(&mut r(), made.clone());
+    let name = format!("seed {seed}, index {index} ({})", made.kind);
+    if single {
+        println!("{name}:\n  {:?}", made.tables);
     }
-    if trouble.is_none() {
-        trouble = round_trip(&made, &words, total);
+    if tried.trouble.is_some() {
+        // Smaller tables are those of no sheet.
+        let alone = |tables: &Tables| Made {
+            tables: tables.clone(),
+            kind: made.kind,
+            sheet: None,
+        };
+        let trouble = |tables: &Tables| try_tables(&mut r(), alone(tables)).trouble;
+        let (small, text) = match trouble(&made.tables) {
+            Some(_) => {
+                let small = shrunk(made.tables, |tables| trouble(tables).is_some());
+                let text = trouble(&small);
+                (small, text)
+            }
+            None => (made.tables, tried.trouble.clone()),
+        };
+        println!(
+            "FAIL: {name}, shrunk to\n  {small:?}\n{}",
+            text.unwrap_or_default()
+        );
     }
-    *total.recipes.entry(made.kind).or_default() += 1;
-    let outcome = match &trial.outcome {
-        Ok(_) => "written".into(),
-        Err(refusal) => named(&made.tables, refusal.number, refusal.place),
-    };
-    *total.outcomes.entry(outcome).or_default() += 1;
-    total.count(trouble.as_deref(), || described(seed, index));
+    tried
+}
+
+/// Everything that is tried with some tables, with the stack that the header states.
+fn try_tables(r: &mut Random, made: Made) -> Tried {
+    let trial = Trial::new(r, &made.tables);
+    on_stated_stack(move || {
+        let words = Words::from(&made.tables);
+        let mut numbers = BTreeMap::new();
+        let mut trouble = trial.differs(&mut |out| {
+            let got = figures::write(&words, out);
+            *numbers.entry(got.number).or_default() += 1;
+            got.into()
+        });
+        if trouble.is_none() && Tables::from(black_box(&words)) != made.tables {
+            trouble = Some("the tables were changed".into());
+        }
+        let trouble = trouble.or_else(|| round_trip(&made, &words));
+        Tried {
+            recipe: made.kind,
+            outcome: named(&made.tables, &trial.outcome),
+            numbers,
+            answered: trial.outcome.is_ok() && answered(&made.tables),
+            trouble,
+        }
+    })
+}
+
+/// Whether what was written is answered too.
+fn answered(tables: &Tables) -> bool {
+    let said = tables.said();
+    light(&said) && said.switches + said.faults <= ANSWERED
 }
 
 /// Both ways round, by what the library wrote: it is the sheet that the tables were read from, if
 /// there is one; and the second reader and the library's own make the tables of it, up to their counts.
-fn round_trip(made: &Made, words: &Words, total: &mut Total) -> Option<String> {
+fn round_trip(made: &Made, words: &Words) -> Option<String> {
     let mut out = vec![0; MAX_BYTES];
     let got = figures::write(words, &mut out);
     let bytes = &out[..got.length.min(MAX_BYTES)];
@@ -222,8 +232,7 @@ fn round_trip(made: &Made, words: &Words, total: &mut Total) -> Option<String> {
             "the library reads what it wrote as {again:?}: {read:?}"
         ));
     }
-    if light(&said) && said.switches + said.faults <= ANSWERED {
-        total.answered += 1;
+    if answered(&made.tables) {
         let found = figures::answer(Sheet(bytes), &mut [0; 4]);
         if ![0, NO_PLAN, NO_ROOM].contains(&found.number) {
             return Some(format!("an answer of what was written: {found:?}"));
@@ -232,18 +241,22 @@ fn round_trip(made: &Made, words: &Words, total: &mut Total) -> Option<String> {
     None
 }
 
-/// A refusal in words, with the part of the sheet that it names a line of.
-fn named(tables: &Tables, number: u32, place: usize) -> String {
-    if number == BAD_SIZE {
-        return format!("{number}");
+/// An outcome in words, with the part of the sheet that a refusal names a line of.
+fn named(tables: &Tables, outcome: &Outcome) -> String {
+    let refusal = match outcome {
+        Ok(_) => return "written".into(),
+        Err(refusal) => refusal,
+    };
+    if refusal.number == BAD_SIZE {
+        return format!("{}", refusal.number);
     }
     let gates = 1 + tables.gates as usize;
-    let part = match place {
-        _ if place <= gates => "a gate",
-        _ if place <= gates + tables.rules as usize => "a rule",
+    let part = match refusal.place {
+        place if place <= gates => "a gate",
+        place if place <= gates + tables.rules as usize => "a rule",
         _ => "a wish",
     };
-    format!("{number} at {part}")
+    format!("{} at {part}", refusal.number)
 }
 
 impl Total {
@@ -287,10 +300,4 @@ impl Total {
         at_least(1_000, Some(&self.answered), "a sheet answered".into());
         rare
     }
-}
-
-/// Tables with their seed and index.
-fn described(seed: u64, index: u64) -> String {
-    let Made { tables, kind, .. } = made_tables(seed, index);
-    format!("seed {seed}, index {index} ({kind}):\n  {tables:?}")
 }

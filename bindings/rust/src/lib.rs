@@ -113,6 +113,8 @@ pub const TEXT_MAX: usize = 16_384;
 pub const LIST_MAX: usize = 65_536;
 /// The bytes of the longest listing.
 pub const LISTING_MAX: usize = 71_094;
+/// The bytes of stack that a call into the library needs at most.
+pub const STACK: usize = 65_536;
 
 /// A setting of all switches. The binary digits of its number are the switches, switch 1 being the
 /// highest and 1 meaning on.
@@ -366,6 +368,25 @@ pub fn write(tables: &Tables) -> Result<Vec<u8>, Refusal> {
 #[cfg(test)]
 mod tests {
     use super::*;
+
+    #[test]
+    fn constants_of_the_header() {
+        let header = include_str!("../../../include/comzsered.h");
+        for (name, value) in [
+            ("GATES_MAX", GATES_MAX),
+            ("RULES_MAX", RULES_MAX),
+            ("WISHES_MAX", WISHES_MAX),
+            ("LITERALS_MAX", LITERALS_MAX),
+            ("SHEET_MAX", SHEET_MAX),
+            ("TEXT_MAX", TEXT_MAX),
+            ("LIST_MAX", LIST_MAX),
+            ("LISTING_MAX", LISTING_MAX),
+            ("STACK", STACK),
+        ] {
+            let line = format!("#define COMZSERED_{name} {value}\n");
+            assert!(header.contains(&line), "{line}");
+        }
+    }
 
     /// A sheet written short, as "H 1 0; Z 1": numbers left out are 0.
     pub fn sheet(short: &str) -> Vec<u8> {

@@ -1,13 +1,16 @@
 //! All jobs on one sheet or text: what the library returns and writes is held to the brute force, and what
 //! is claimed of Answer and Short run together is tried on what the library returned.
 
-use comzsered::{figures, Input, LISTING_MAX};
+use comzsered::figures::{self, Words};
+use comzsered::{Input, LISTING_MAX};
 use planner_tests::brute::{self, refused_listing, End, Found, Planner, Rated, Run};
 use planner_tests::effort::Effort;
 use planner_tests::form::Form;
 use planner_tests::generate::Random;
 use planner_tests::oracle::Refusal;
 use planner_tests::planning::shuffle;
+use planner_tests::tables::Tables;
+use planner_tests::writing;
 
 use crate::tally::{Calls, Room};
 
@@ -64,14 +67,6 @@ impl<'a> Check<'a> {
         match self.form {
             Form::Sheet => Input::Sheet(self.bytes),
             Form::Text => Input::Text(self.bytes),
-        }
-    }
-
-    /// Every job on this sheet or text, with so much work at most.
-    pub fn all_jobs(&mut self, budget: u64) {
-        match self.form.read(self.bytes) {
-            Ok(sheet) => self.accepted(&Planner::new(sheet), budget),
-            Err(refusal) => self.refused(refusal),
         }
     }
 
@@ -186,7 +181,7 @@ impl<'a> Check<'a> {
 
     // ---- a refused sheet or text
 
-    fn refused(&mut self, refusal: Refusal) {
+    pub fn refused(&mut self, refusal: Refusal) {
         let expected = Found::from(refusal);
         for room in [0, 1 + self.r.below(9)] {
             let (answered, _) = self.answer(room, expected, &[]);
@@ -206,8 +201,9 @@ impl<'a> Check<'a> {
 
     // ---- an accepted sheet or text
 
-    fn accepted(&mut self, planner: &Planner, budget: u64) {
-        let mut effort = Effort::new(&planner.sheet, budget);
+    /// Every job, as far as the effort goes.
+    pub fn accepted(&mut self, planner: &Planner, mut effort: Effort) {
+        self.tables(planner);
         let run = planner.run(effort.longest_list());
         self.calls.listed(&run, planner);
         if run.end != End::Left && effort.afford_answer(run.list.len()) {
@@ -220,6 +216,25 @@ impl<'a> Check<'a> {
         self.beginnings(planner, &run, &listed, &mut effort);
         self.other_lists(planner, &run, &mut effort);
         self.ratings(planner, &run, &mut effort);
+    }
+
+    /// Reading into tables, and writing what was read.
+    fn tables(&mut self, planner: &Planner) {
+        let tables = Tables::of(&planner.sheet);
+        let sheet = writing::sheet(&tables).expect("right tables");
+        let mut words = vec![Words::EMPTY];
+        let read = figures::read(self.input(), &mut words[0]);
+        self.hold("number of the reading", read.number, 0);
+        self.claim(Tables::from(&words[0]) == tables, || {
+            format!("it is read as the second reader reads it: {:?}", words[0])
+        });
+        let mut out = vec![0; sheet.len()];
+        let written = figures::write(&words[0], &mut out);
+        self.hold("number of the writing", written.number, 0);
+        self.claim(out == sheet, || {
+            let text = out.escape_ascii();
+            format!("what was read is written as its sheet: {text}")
+        });
     }
 
     /// Answer with several rooms: for the whole list, for none, for less and for more. Returns the

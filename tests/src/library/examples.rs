@@ -4,7 +4,7 @@ use planner_tests::brute::{listing_of, Found, Planner, Rated};
 use planner_tests::form::Form;
 use planner_tests::generate::sheet;
 use planner_tests::malformed;
-use planner_tests::oracle::Refusal;
+use planner_tests::oracle::{Refusal, MAX_GATES};
 use planner_tests::typed::places;
 use planner_tests::SAMPLE_LISTING;
 
@@ -197,6 +197,84 @@ fn sheets() -> Vec<Example> {
     ]
 }
 
+/// Every job on chains of 400 gates, in which each names the one before: these need most stack. With the one
+/// switch on the last gate is true, otherwise not.
+fn chains() -> Vec<Example> {
+    let links: [(&str, fn(usize) -> String); 5] = [
+        ("400 ands, the one before first", |before| {
+            format!("A {before} 1; ")
+        }),
+        ("400 ands, the one before second", |before| {
+            format!("A 1 {before}; ")
+        }),
+        ("400 ors, the one before first", |before| {
+            format!("O {before} 1; ")
+        }),
+        ("400 ors, the one before second", |before| {
+            format!("O 2 {before}; ")
+        }),
+        ("400 nots", |before| format!("N {before}; ")),
+    ];
+    let links = links.into_iter();
+    let examples = links.flat_map(|(name, link)| {
+        // Point 2 is the fault, so that an or with it goes on to the one before when it is not there.
+        let befores = std::iter::once(1).chain(3..MAX_GATES + 2);
+        let gates: String = befores.map(link).collect();
+        let short = format!(
+            "H 1 1; {gates}R {}; W -1; Z {}",
+            MAX_GATES + 2,
+            MAX_GATES + 3
+        );
+        on_exactly_with_the_switch(name, sheet(&short))
+    });
+    examples.collect()
+}
+
+/// The same as a text, whose formulas join from the left.
+fn typed_chains() -> Vec<Example> {
+    let joined = |sign: &str| {
+        let rule = format!("s1{}", format!("{sign}s1").repeat(MAX_GATES));
+        format!("switches 1\nfaults 1\nrule {rule}\nwish !s1\n").into_bytes()
+    };
+    [("400 ands, typed", "&"), ("400 ors, typed", "|")]
+        .into_iter()
+        .flat_map(|(name, sign)| on_exactly_with_the_switch(name, joined(sign)))
+        .collect()
+}
+
+/// Every job on a sheet or text with one switch, one fault and one wish, for the switch to be off, which it must
+/// not be.
+fn on_exactly_with_the_switch(name: &str, bytes: Vec<u8>) -> [Example; 5] {
+    let listed = Found {
+        length: 1,
+        ..plan(1, 1)
+    };
+    let sound = Rated {
+        cost: 1,
+        sound: 1,
+        ..Rated::default()
+    };
+    let printed = "\
+A    0    0    1
+S    1    1    0
+W    1    0    0
+F    1    0    0
+Z    4    0    0
+";
+    [
+        ("answer", Job::Answer(2, listed, vec![0])),
+        ("short run", Job::ShortRun(vec![1, 0], plan(1, 1))),
+        ("rating, on", Job::Rating(1, sound)),
+        ("rating, off", Job::Rating(0, Rated::default())),
+        ("listing", Job::Listing(printed.into())),
+    ]
+    .map(|(job_name, job)| Example {
+        name: format!("{name}, {job_name}"),
+        bytes: bytes.clone(),
+        job,
+    })
+}
+
 /// Every job on a sheet with each malformed line. The patterns and the plan are too large besides:
 /// that would be told after it.
 fn malformed() -> Vec<Example> {
@@ -375,8 +453,8 @@ fn by_hand(job: &Job) -> String {
 pub fn try_all(form: Form) -> (u64, u64) {
     let (mut passed, mut failed) = (0, 0);
     let examples = match form {
-        Form::Sheet => [sheets(), malformed()].concat(),
-        Form::Text => [texts(), placed()].concat(),
+        Form::Sheet => [sheets(), chains(), malformed()].concat(),
+        Form::Text => [texts(), typed_chains(), placed()].concat(),
     };
     for example in examples {
         let mut check = Check::new(form, &example.bytes, 0, 0);

@@ -1,44 +1,39 @@
-//! Compares the proved library with the brute force: every job on many sheets, or typed texts, whole
-//! and damaged.
+//! Compares the proved library with the second planner: every job on many sheets, or typed texts, whole and
+//! damaged, or at the limits.
 //!
-//! Usage: compare-library [--texts 1] [--seconds T] [--count N] [--seed S] [--index I] [--trace 1]
+//! Usage: compare-library [--texts 1] [--limits 1] [--count N] [--seconds T] [--seed S] [--index I] [--trace 1]
 //!
-//! It stops after N sheets or T seconds, whichever comes first. Without --seed it takes the sheets
-//! of all fixed seeds and of a fresh one in turn. With --index it tries that one sheet of each seed.
-//! With --trace each sheet is named before it is tried: so one that the library does not survive
-//! can be found. With --texts all this is done with typed texts.
+//! With --texts all this is done with typed texts; with --limits the sheets or texts are at the limits. See
+//! `cases.rs` for the other options.
 
 mod check;
 mod examples;
 mod tally;
 
 use std::process::ExitCode;
-use std::sync::Mutex;
-use std::time::{Duration, Instant};
 
 use check::Check;
+use planner_tests::brute::Planner;
+use planner_tests::cases::{self, Cases};
+use planner_tests::counts::{LIMIT_SHEETS, LIMIT_TEXTS, SHEETS, TEXTS};
+use planner_tests::effort::Effort;
 use planner_tests::form::Form;
+use planner_tests::limits::{Kind, Limit};
 use planner_tests::options::{ended, misused, Options};
-use planner_tests::oracle::LINE;
-use planner_tests::planning::{class, Class};
-use planner_tests::workers::work;
+use planner_tests::oracle::Refusal;
+use planner_tests::planning::{class, light, Class, Made};
+use planner_tests::shrink::{shown, shrunk, shrunk_bytes};
+use planner_tests::stack::on_stated_stack;
 use tally::Calls;
 
-/// Sheets, texts and seconds at most, unless the options say otherwise.
-const SHEETS: u64 = 100_000;
-const TEXTS: u64 = 40_000;
-const SECONDS: u64 = 180;
-/// Fewer sheets than this, without options, are a failure: the machine or the library is too slow
-/// for the comparison to say much.
-const FEWEST: u64 = 20_000;
-const STOP_AFTER: u64 = 20;
 /// The troubles of one sheet that are shown.
 const SHOWN: usize = 4;
 
-const USAGE: &str =
-    "usage: compare-library [--texts 1] [--seconds T] [--count N] [--seed S] [--index I] [--trace 1]";
+/// The option that asks for sheets at the limits, whatever its number.
+const LIMITS: &str = "--limits";
 
-/// The gates worked out at most for the sheets of a class.
+/// The work at most for the sheets of a class, see `effort.rs`. With a faster library it can be raised: then more
+/// calls are made and longer lists tried.
 fn budget(class: Class) -> u64 {
     match class {
         Class::Small => 8_000_000,
@@ -49,25 +44,58 @@ fn budget(class: Class) -> u64 {
     }
 }
 
+/// The same for those at the limits.
+fn limit_budget(kind: Kind) -> u64 {
+    match kind {
+        Kind::All => 600_000_000,
+        Kind::FewWishes => 400_000_000,
+        Kind::FewFaults => 300_000_000,
+        Kind::FewSwitches => 100_000_000,
+        Kind::Ordered => 200_000_000,
+    }
+}
+
 fn main() -> ExitCode {
-    let names = [
-        Form::OPTION,
-        "--seconds",
-        "--count",
-        "--seed",
-        "--index",
-        "--trace",
-    ];
+    let names = [&[Form::OPTION, LIMITS][..], &cases::OPTIONS].concat();
     let options = Options::from_command_line(&names).filter(|o| o.words.is_empty());
     let Some(options) = options else {
-        return misused(USAGE);
+        let usage = format!(
+            "usage: compare-library [--texts 1] [--limits 1] {}",
+            cases::USAGE
+        );
+        return misused(&usage);
     };
     let form = Form::asked(&options);
+    let at_the_limits = options.number(LIMITS).is_some();
+    let count = match (form, at_the_limits) {
+        (Form::Sheet, false) => SHEETS,
+        (Form::Text, false) => TEXTS,
+        (Form::Sheet, true) => LIMIT_SHEETS,
+        (Form::Text, true) => LIMIT_TEXTS,
+    };
     let mut total = Total::default();
-    (total.passed, total.failed) = examples::try_all(form);
-    match options.number("--index") {
-        Some(index) => one_sheet(form, &options, index, &mut total),
-        None => many_sheets(form, &options, &mut total),
+    if !at_the_limits {
+        (total.passed, total.failed) = on_stated_stack(move || examples::try_all(form));
+    }
+    let cases = Cases::asked(&options, count);
+    let single = cases.single();
+    let all = cases.each(
+        |seed, index| match at_the_limits {
+            true => try_limit(form, seed, index, single),
+            false => try_made(form, seed, index, single),
+        },
+        |tried| total.add(&tried),
+    );
+    total.calls.show(form);
+    if all {
+        let rare = match at_the_limits {
+            true => total.calls.too_rare_at_the_limits(),
+            false => total.calls.too_rare(form),
+        };
+        for text in rare {
+            println!("FAIL: {text}");
+            total.failed += 1;
+        }
     }
     ended(total.passed, total.failed)
 }
@@ -77,126 +105,121 @@ fn main() -> ExitCode {
 struct Total {
     passed: u64,
     failed: u64,
-    sheets: u64,
     calls: Calls,
 }
 
-fn one_sheet(form: Form, options: &Options, index: u64, total: &mut Total) {
-    for seed in options.seeds() {
-        println!("{}", described(form, seed, index));
-        let troubles = try_sheet(form, seed, index, &mut total.calls);
-        println!("{}", troubles.join("\n"));
-        total.add(troubles.is_empty());
-    }
-    total.calls.show(form);
-}
-
-fn many_sheets(form: Form, options: &Options, total: &mut Total) {
-    let began = Instant::now();
-    let stopped = try_sheets(form, options, total);
-    let calls = total.calls.all();
-    let name = form.name();
-    println!(
-        "{} {name}, {calls} calls in {:.1} seconds",
-        total.sheets,
-        began.elapsed().as_secs_f64()
-    );
-    total.calls.show(form);
-    let chosen = options.number("--seed").is_some() || options.number("--count").is_some();
-    if chosen || stopped {
-        return;
-    }
-    let mut missing = total.calls.too_rare(form);
-    if total.sheets < FEWEST {
-        missing = vec![format!("fewer than {FEWEST} {name} were tried")];
-    }
-    for text in missing {
-        println!("FAIL: {text}");
-        total.failed += 1;
-    }
-}
-
 impl Total {
-    fn add(&mut self, ok: bool) {
-        self.sheets += 1;
-        if ok {
+    /// Adds one sheet. Returns how many have failed so far.
+    fn add(&mut self, tried: &Tried) -> u64 {
+        self.calls.add(&tried.calls);
+        if tried.troubles.is_empty() {
             self.passed += 1;
         } else {
             self.failed += 1;
         }
+        self.failed
     }
 }
 
-/// Tries the sheets of all seeds in turn, until the count, the time or too many failures. Returns
-/// whether it was the failures.
-fn try_sheets(form: Form, options: &Options, total: &mut Total) -> bool {
-    let seeds = options.seeds();
-    let most = match form {
-        Form::Sheet => SHEETS,
-        Form::Text => TEXTS,
-    };
-    let count = options.number("--count").unwrap_or(most);
-    let seconds = options.number("--seconds").unwrap_or(SECONDS);
-    let trace = options.number("--trace").is_some();
-    let end = Instant::now() + Duration::from_secs(seconds);
-    let shared = Mutex::new(&mut *total);
-    work(|job| {
-        if job >= count || Instant::now() >= end {
-            return false;
-        }
-        let seed = seeds[(job % seeds.len() as u64) as usize];
-        let index = job / seeds.len() as u64;
-        if trace {
-            println!("seed {seed}, index {index}");
-        }
-        let mut calls = Calls::default();
-        let troubles = try_sheet(form, seed, index, &mut calls);
-        if !troubles.is_empty() {
-            println!("FAIL: {}", described(form, seed, index));
-            println!("{}", troubles.join("\n"));
-        }
-        let mut total = shared.lock().expect("no worker panics");
-        total.calls.add(&calls);
-        total.add(troubles.is_empty());
-        total.failed < STOP_AFTER
-    });
-    let stopped = total.failed >= STOP_AFTER;
-    if stopped {
-        println!("stopped after {STOP_AFTER} failures");
-    }
-    stopped
+/// What came of one sheet or text.
+struct Tried {
+    calls: Calls,
+    troubles: Vec<String>,
 }
 
-/// All jobs on one sheet. Returns what went wrong, the first of it.
-fn try_sheet(form: Form, seed: u64, index: u64, calls: &mut Calls) -> Vec<String> {
+/// The sheet or text of this seed and index. If it fails, or is looked at alone, it is shown.
+fn try_made(form: Form, seed: u64, index: u64, single: bool) -> Tried {
     let made = form.made(seed, index);
-    let mut check = Check::new(form, &made.bytes, seed, index);
-    check.all_jobs(budget(class(index)));
-    calls.add(&check.calls);
-    calls.made(form, &made);
-    let more = check.troubles.len().saturating_sub(SHOWN);
-    check.troubles.truncate(SHOWN);
+    let Made { bytes, kind, .. } = &made;
+    let mut tried = try_bytes(form, bytes, seed, index);
+    tried.calls.made(form, &made);
+    let name = format!("seed {seed}, index {index} ({kind})");
+    if single {
+        println!("{name}, {}", shown(form, bytes));
+    }
+    if !tried.troubles.is_empty() {
+        show_shrunk(&name, form, bytes, seed, index);
+    }
+    tried
+}
+
+/// Any sheet or text, by brute force.
+fn try_bytes(form: Form, bytes: &[u8], seed: u64, index: u64) -> Tried {
+    let read = form.read(bytes).map(Planner::new);
+    let budget = budget(class(index));
+    let effort = move |planner: &Planner| Effort::at_most(&planner.sheet, budget);
+    try_jobs(form, bytes.to_vec(), read, effort, seed, index)
+}
+
+/// The same for one at the limits.
+fn try_limit(form: Form, seed: u64, index: u64, single: bool) -> Tried {
+    let try_one = |limit: &Limit| {
+        let bytes = limit.bytes();
+        let read = form.read(&bytes).map(|sheet| limit.planner(sheet));
+        let budget = limit_budget(Kind::of(index));
+        let effort = move |planner: &Planner| Effort::as_a_rule(&planner.sheet, budget);
+        try_jobs(form, bytes, read, effort, seed, index)
+    };
+    let limit = Limit::made(form, seed, index);
+    let tried = try_one(&limit);
+    let name = format!("seed {seed}, index {index} ({:?})", Kind::of(index));
+    if single {
+        println!("{name}, {}", shown(form, &limit.bytes()));
+    }
+    if !tried.troubles.is_empty() {
+        let small = shrunk(limit, |limit| !try_one(limit).troubles.is_empty());
+        if fails_in_time(form, &small.bytes(), seed, index) {
+            show_shrunk(&name, form, &small.bytes(), seed, index);
+        } else {
+            show_failure(&name, form, &small.bytes(), try_one(&small));
+        }
+    }
+    tried
+}
+
+/// Whether a sheet or text fails. One that was not made for the planner may take it too long.
+fn fails_in_time(form: Form, bytes: &[u8], seed: u64, index: u64) -> bool {
+    let in_time = form.read(bytes).map_or(true, |sheet| light(&sheet));
+    in_time && !try_bytes(form, bytes, seed, index).troubles.is_empty()
+}
+
+fn show_shrunk(name: &str, form: Form, bytes: &[u8], seed: u64, index: u64) {
+    let small = shrunk_bytes(form, bytes, |less| fails_in_time(form, less, seed, index));
+    show_failure(name, form, &small, try_bytes(form, &small, seed, index));
+}
+
+fn show_failure(name: &str, form: Form, bytes: &[u8], tried: Tried) {
+    let mut troubles = tried.troubles;
+    let more = troubles.len().saturating_sub(SHOWN);
+    troubles.truncate(SHOWN);
     if more > 0 {
-        check.troubles.push(format!("and {more} more"));
+        troubles.push(format!("and {more} more"));
     }
-    check.troubles
+    let text = troubles.join("\n");
+    println!("FAIL: {name}, shrunk to {}\n{text}", shown(form, bytes));
 }
 
-/// A sheet with its seed and index, in such a way that every byte can be seen.
-fn described(form: Form, seed: u64, index: u64) -> String {
-    let made = form.made(seed, index);
-    let lines: Vec<&[u8]> = match form {
-        Form::Sheet => made.bytes.chunks(LINE).collect(),
-        Form::Text => made.bytes.split_inclusive(|&byte| byte == b'\n').collect(),
-    };
-    let shown = lines
-        .iter()
-        .map(|line| format!("  {}", line.escape_ascii()));
-    let text: Vec<String> = shown.collect();
-    format!(
-        "seed {seed}, index {index} ({}), {} bytes:\n{}",
-        made.kind,
-        made.bytes.len(),
-        text.join("\n")
-    )
+/// All jobs on what was read from these bytes, with the stack that the header states.
+fn try_jobs(
+    form: Form,
+    bytes: Vec<u8>,
+    read: Result<Planner, Refusal>,
+    effort: impl FnOnce(&Planner) -> Effort + Send + 'static,
+    seed: u64,
+    index: u64,
+) -> Tried {
+    on_stated_stack(move || {
+        let mut check = Check::new(form, &bytes, seed, index);
+        match read {
+            Ok(planner) => {
+                let effort = effort(&planner);
+                check.accepted(&planner, effort);
+            }
+            Err(refusal) => check.refused(refusal),
+        }
+        Tried {
+            calls: check.calls,
+            troubles: check.troubles,
+        }
+    })
 }

@@ -2,7 +2,7 @@
 
 use std::collections::BTreeMap;
 
-use planner_tests::brute::{End, Found, Planner, Rated, Run};
+use planner_tests::brute::{End, Found, Planner, Rated, Run, NO_PLAN, NO_ROOM};
 use planner_tests::form::Form;
 use planner_tests::oracle::{LINE, MALFORMED};
 use planner_tests::planning::Made;
@@ -80,6 +80,8 @@ pub struct Calls {
     /// Sheets whose list has at least so many words, with a plan and without.
     plans: [u64; LENGTHS.len()],
     no_plans: [u64; LENGTHS.len()],
+    /// The same of sheets whose list goes on beyond that.
+    left: [u64; LENGTHS.len()],
     /// Sheets whose list is as long as there are plans, and as there are patterns.
     all_plans: u64,
     all_patterns: u64,
@@ -114,7 +116,7 @@ impl Calls {
         let sheets = match run.end {
             End::Plan(_) => &mut self.plans,
             End::NoPlan => &mut self.no_plans,
-            End::Left => return,
+            End::Left => &mut self.left,
         };
         for (sheet, at_least) in sheets.iter_mut().zip(LENGTHS) {
             *sheet += u64::from(run.list.len() >= at_least);
@@ -146,17 +148,19 @@ impl Calls {
         add(&mut self.rooms, &other.rooms);
         add(&mut self.plans, &other.plans);
         add(&mut self.no_plans, &other.no_plans);
+        add(&mut self.left, &other.left);
         self.sound += other.sound;
         self.listings += other.listings;
         self.all_plans += other.all_plans;
         self.all_patterns += other.all_patterns;
     }
 
-    pub fn all(&self) -> u64 {
+    fn all(&self) -> u64 {
         self.answers.all() + self.short_runs.all() + self.ratings.all() + self.listings
     }
 
     pub fn show(&self, form: Form) {
+        println!("{} calls of the jobs", self.all());
         println!("number   answers  short runs   ratings");
         for number in 0..NUMBERS {
             println!(
@@ -181,12 +185,12 @@ impl Calls {
             );
         }
         println!(
-            "list of at least   {} with a plan  without one",
+            "list of at least   {} with a plan  without one  left",
             form.name()
         );
         for (k, at_least) in LENGTHS.iter().enumerate() {
-            let (plans, none) = (self.plans[k], self.no_plans[k]);
-            println!("{at_least:>16}  {plans:>18}  {none:>11}");
+            let (plans, none, left) = (self.plans[k], self.no_plans[k], self.left[k]);
+            println!("{at_least:>16}  {plans:>18}  {none:>11}  {left:>4}");
         }
         println!(
             "lists as long as there are plans: {}, patterns: {}",
@@ -215,6 +219,27 @@ impl Calls {
             "texts that go as deep as may be: {}, and deeper: {}",
             self.deepest, self.too_deep
         );
+    }
+
+    /// The same of those at the limits: they are few, and all are accepted.
+    pub fn too_rare_at_the_limits(&self) -> Vec<String> {
+        let lists = |at_least: usize| {
+            let k = LENGTHS.iter().position(|&length| length == at_least);
+            let k = k.expect("a length that is counted");
+            self.plans[k] + self.no_plans[k] + self.left[k]
+        };
+        let came = [
+            ("a plan", self.answers.numbers[0], 40),
+            ("no plan", self.answers.numbers[NO_PLAN as usize], 20),
+            ("no room", self.answers.numbers[NO_ROOM as usize], 50),
+            ("a sound plan", self.sound, 25),
+            ("a listing", self.listings, 40),
+            ("a list of at least 2", lists(2), 25),
+            ("a list of at least 12", lists(12), 2),
+        ];
+        let rare = came.iter().filter(|(_, came, fewest)| came < fewest);
+        rare.map(|(what, came, fewest)| format!("{what} came {came} times, fewer than {fewest}"))
+            .collect()
     }
 
     /// What hardly came was hardly tested: each such outcome, in words.

@@ -22,20 +22,22 @@ const MAX_PASS: u64 = 4_000_000;
 // ---- circuits
 
 /// Gates under construction. Points are numbered as on the sheet.
-struct Circuit {
+pub(crate) struct Circuit {
     switches: i32,
     faults: i32,
     gates: Vec<Row>,
+    most_gates: usize,
     /// The tree of each point.
     trees: Vec<u64>,
 }
 
 impl Circuit {
-    fn new(switches: i32, faults: i32) -> Circuit {
+    pub(crate) fn new(switches: i32, faults: i32, most_gates: usize) -> Circuit {
         Circuit {
             switches,
             faults,
             gates: Vec::new(),
+            most_gates,
             trees: vec![1; (switches + faults) as usize],
         }
     }
@@ -52,7 +54,7 @@ impl Circuit {
     /// for it: the sheet is another one then, and as good for the comparison.
     fn add(&mut self, letter: u8, left: i32, right: Option<i32>) -> i32 {
         let tree = 1 + self.tree(left) + right.map_or(0, |point| self.tree(point));
-        if self.gates.len() == MAX_GATES || tree > MAX_TREE {
+        if self.gates.len() == self.most_gates || tree > MAX_TREE {
             return left;
         }
         let row = match right {
@@ -94,7 +96,7 @@ impl Circuit {
     }
 
     /// The point's negation, by a gate that is there already if there is one.
-    fn negated(&mut self, point: i32) -> i32 {
+    pub(crate) fn negated(&mut self, point: i32) -> i32 {
         let leaves = self.switches + self.faults;
         let is_it = |row: &Row| row.letter == b'N' && row.fields[0] == point;
         match self.gates.iter().position(is_it) {
@@ -134,6 +136,17 @@ impl Circuit {
         }
     }
 
+    /// The sheet with these gates, rules and wishes.
+    pub(crate) fn sheet(self, rules: &[i32], wishes: &[Vec<i32>]) -> Vec<Row> {
+        let mut rows = vec![Row::new(b'H', &[self.switches, self.faults])];
+        rows.extend(self.gates);
+        rows.extend(rules.iter().map(|&point| Row::new(b'R', &[point])));
+        rows.extend(wishes.iter().map(|wish| Row::new(b'W', wish)));
+        let before = rows.len() as i32;
+        rows.push(Row::new(b'Z', &[before]));
+        rows
+    }
+
     /// Any point, those of late gates more often.
     fn a_point(&self, r: &mut Random) -> i32 {
         let last = self.points();
@@ -150,7 +163,7 @@ fn unused(r: &mut Random, c: &mut Circuit) {
     if c.points() == 0 {
         return;
     }
-    for _ in 0..r.below(MAX_GATES - 20) {
+    for _ in 0..r.below(c.most_gates.saturating_sub(20).max(1)) {
         let (left, right) = (c.a_leaf(r), c.a_leaf(r));
         c.and(left, right);
     }
@@ -249,7 +262,7 @@ fn forbidden(r: &mut Random, c: &mut Circuit) -> Vec<i32> {
                 literals.push(c.literal(c.switches + fault, pattern >> fault & 1 == 0));
             }
         }
-        if c.gates.len() + literals.len() > MAX_GATES {
+        if c.gates.len() + literals.len() > c.most_gates {
             break;
         }
         if !literals.is_empty() {
@@ -261,8 +274,8 @@ fn forbidden(r: &mut Random, c: &mut Circuit) -> Vec<i32> {
 }
 
 /// How a plan and a pattern have to compare.
-#[derive(Clone, Copy)]
-enum Relation {
+#[derive(Clone, Copy, Debug, PartialEq, Eq)]
+pub enum Relation {
     AtLeast,
     Differ,
     Equal,
@@ -316,7 +329,13 @@ fn comparison(r: &mut Random, c: &mut Circuit, relation: Relation) -> i32 {
 }
 
 /// The comparison of all digits up to this one, from that of the lower ones.
-fn with_digit(c: &mut Circuit, relation: Relation, s: i32, f: i32, lower: Option<i32>) -> i32 {
+pub(crate) fn with_digit(
+    c: &mut Circuit,
+    relation: Relation,
+    s: i32,
+    f: i32,
+    lower: Option<i32>,
+) -> i32 {
     match relation {
         Relation::AtLeast => {
             let not_f = c.negated(f);
@@ -531,7 +550,7 @@ fn a_literal(r: &mut Random, switches: i32) -> i32 {
     }
 }
 
-fn a_wish(r: &mut Random, switches: i32, earlier: &[Vec<i32>]) -> Vec<i32> {
+pub(crate) fn a_wish(r: &mut Random, switches: i32, earlier: &[Vec<i32>]) -> Vec<i32> {
     if !earlier.is_empty() && r.one_in(4) {
         let k = r.below(earlier.len());
         return again(r, &earlier[k]);
@@ -672,37 +691,50 @@ fn rules(r: &mut Random, kind: usize, c: &mut Circuit) -> Vec<i32> {
     }
 }
 
+/// Any kind, those with long lists more often.
+fn a_kind(r: &mut Random) -> usize {
+    r.pick(&[0, 1, 2, 2, 2, 3, 3, 3, 4, 4, 5, 6, 6, 7, 8])
+}
+
 fn rows(r: &mut Random, class: Class) -> (Vec<Row>, &'static str) {
     let kind = match class {
         Class::Large => r.pick(&LENGTHY),
         Class::Long => COMPARED,
-        _ => r.pick(&[0, 1, 2, 2, 2, 3, 3, 3, 4, 4, 5, 6, 6, 7, 8]),
+        _ => a_kind(r),
     };
     let (switches, faults) = sizes(r, class, kind);
-    let c = &mut Circuit::new(switches, faults);
+    let mut c = Circuit::new(switches, faults, MAX_GATES);
     let (rules, wishes) = if class == Class::Long {
         let relation = r.pick(&[Relation::AtLeast, Relation::Differ]);
         let few = r.one_in(2);
         let wishes = if few { Vec::new() } else { wishes(r, switches) };
-        (vec![comparison(r, c, relation)], wishes)
+        (vec![comparison(r, &mut c, relation)], wishes)
     } else {
-        if r.one_in(25) {
-            unused(r, c);
-        }
-        let mut made = rules(r, kind, c);
-        if r.one_in(6) {
-            let more = r.below(KINDS.len());
-            made.extend(rules(r, more, c));
-        }
-        (dressed(r, c, made), wishes(r, switches))
+        content(r, &mut c, kind)
     };
-    let mut rows = vec![Row::new(b'H', &[switches, faults])];
-    rows.append(&mut c.gates);
-    rows.extend(rules.iter().map(|&point| Row::new(b'R', &[point])));
-    rows.extend(wishes.iter().map(|wish| Row::new(b'W', wish)));
-    let before = rows.len() as i32;
-    rows.push(Row::new(b'Z', &[before]));
-    (rows, KINDS[kind])
+    (c.sheet(&rules, &wishes), KINDS[kind])
+}
+
+/// Rules of this kind, sometimes with others, and wishes.
+fn content(r: &mut Random, c: &mut Circuit, kind: usize) -> (Vec<i32>, Vec<Vec<i32>>) {
+    if r.one_in(25) {
+        unused(r, c);
+    }
+    let mut made = rules(r, kind, c);
+    if r.one_in(6) {
+        let more = r.below(KINDS.len());
+        made.extend(rules(r, more, c));
+    }
+    (dressed(r, c, made), wishes(r, c.switches))
+}
+
+/// A sheet with so many switches and faults and at most so many gates, for a part of a larger one.
+pub(crate) fn part(r: &mut Random, switches: u32, faults: u32, most_gates: usize) -> Sheet {
+    let mut c = Circuit::new(switches as i32, faults as i32, most_gates);
+    let kind = a_kind(r);
+    let (rules, wishes) = content(r, &mut c, kind);
+    let bytes = written(&c.sheet(&rules, &wishes)).concat();
+    read(&bytes).expect("a sheet that is right")
 }
 
 /// The gates, all trees written out, that it takes to try one plan on one pattern.

@@ -1,23 +1,21 @@
 //! Compares the proved library's readers with the second ones: sheets, or typed texts, read into
 //! tables, and both ways round between tables and sheets.
 //!
-//! Usage: compare-reader [--texts 1] [--count N] [--seed S] [--index I] [--trace 1]
+//! Usage: compare-reader [--texts 1] [--count N] [--seconds T] [--seed S] [--index I] [--trace 1]
 //!
-//! N is the number of sheets or texts of each seed. Without --seed it takes those of all fixed seeds
-//! and of a fresh one. With --index it tries that one of each seed and shows it. With --trace each is
-//! named before it is tried: so one that the library does not survive can be found.
+//! See `cases.rs` for the options.
 
 mod examples;
 
 use std::collections::{BTreeMap, BTreeSet};
 use std::hint::black_box;
 use std::process::ExitCode;
-use std::sync::Mutex;
-use std::time::Instant;
 
 use comzsered::figures::{self, Words};
 use comzsered::Input;
 use examples::Example;
+use planner_tests::cases::{self, Cases};
+use planner_tests::counts::{READ_SHEETS, READ_TEXTS};
 use planner_tests::form::Form;
 use planner_tests::generate::{string, Random, RECIPES};
 use planner_tests::options::{ended, misused, Options};
@@ -27,86 +25,41 @@ use planner_tests::oracle::{
 };
 use planner_tests::reading::check::Trial;
 use planner_tests::reading::Outcome;
+use planner_tests::shrink::{shown, shrunk_bytes};
+use planner_tests::stack::on_stated_stack;
 use planner_tests::tables::Tables;
 use planner_tests::typed::NOT_LEGAL;
-use planner_tests::workers::work;
 use planner_tests::writing;
 
-/// Sheets and texts of each seed, unless --count says otherwise.
-const SHEETS: u64 = 20_000;
-const TEXTS: u64 = 8_000;
-/// Fewer than this in all do not show whether every refusal comes often enough.
-const JUDGED_FROM: u64 = 6_000;
-const STOP_AFTER: u64 = 20;
-
-const USAGE: &str =
-    "usage: compare-reader [--texts 1] [--count N] [--seed S] [--index I] [--trace 1]";
-
 fn main() -> ExitCode {
-    let names = [Form::OPTION, "--count", "--seed", "--index", "--trace"];
+    let names = [&[Form::OPTION][..], &cases::OPTIONS].concat();
     let options = Options::from_command_line(&names).filter(|o| o.words.is_empty());
     let Some(options) = options else {
-        return misused(USAGE);
+        return misused(&format!(
+            "usage: compare-reader [--texts 1] {}",
+            cases::USAGE
+        ));
     };
     let form = Form::asked(&options);
+    let count = match form {
+        Form::Sheet => READ_SHEETS,
+        Form::Text => READ_TEXTS,
+    };
     let mut tally = Tally::default();
     for example in examples::all(form) {
         tally.add_example(form, &example);
     }
-    let seeds = options.seeds();
-    match options.number("--index") {
-        Some(index) => {
-            for seed in seeds {
-                println!("{}", described(form, seed, index));
-                let tried = try_one(form, seed, index);
-                println!("{}", tried.trouble.as_deref().unwrap_or("ok"));
-                tried.add_to(&mut tally);
-            }
-        }
-        None => many(form, &options, &seeds, &mut tally),
-    }
-    ended(tally.passed, tally.failed)
-}
-
-/// Tries those of all seeds, and judges what came of them.
-fn many(form: Form, options: &Options, seeds: &[u64], tally: &mut Tally) {
-    let most = match form {
-        Form::Sheet => SHEETS,
-        Form::Text => TEXTS,
-    };
-    let count = options.number("--count").unwrap_or(most);
-    let trace = options.number("--trace").is_some();
-    let began = Instant::now();
-    let shared = Mutex::new(&mut *tally);
-    work(|job| {
-        let seed = job.checked_div(count).and_then(|k| seeds.get(k as usize));
-        let Some(&seed) = seed else {
-            return false;
-        };
-        let index = job % count;
-        if trace {
-            println!("seed {seed}, index {index}");
-        }
-        let tried = try_one(form, seed, index);
-        if let Some(trouble) = &tried.trouble {
-            println!("FAIL: {}\n{trouble}", described(form, seed, index));
-        }
-        let mut tally = shared.lock().expect("no worker panics");
-        tried.add_to(&mut tally);
-        tally.failed < STOP_AFTER
-    });
-    println!(
-        "{} {} in {:.1} seconds",
-        tally.tried(),
-        form.name(),
-        began.elapsed().as_secs_f64()
+    let cases = Cases::asked(&options, count);
+    let single = cases.single();
+    let all = cases.each(
+        |seed, index| try_one(form, seed, index, single),
+        |tried| tally.add(tried),
     );
     tally.show(form);
-    match tally.failed {
-        0 => tally.judge(form),
-        STOP_AFTER.. => println!("stopped after {STOP_AFTER} failures"),
-        _ => {}
+    if all {
+        tally.judge(form);
     }
+    ended(tally.passed, tally.failed)
 }
 
 /// The sheet or text of this seed and index, and what it was made by.
@@ -123,12 +76,6 @@ fn made(form: Form, seed: u64, index: u64) -> (Vec<u8>, &'static str) {
     }
 }
 
-fn described(form: Form, seed: u64, index: u64) -> String {
-    let (bytes, kind) = made(form, seed, index);
-    let (length, text) = (bytes.len(), bytes.escape_ascii());
-    format!("seed {seed}, index {index} ({kind}), {length} bytes:\n{text}")
-}
-
 // ---- one sheet or text
 
 /// What came of one.
@@ -138,16 +85,30 @@ struct Tried {
     trouble: Option<String>,
 }
 
-fn try_one(form: Form, seed: u64, index: u64) -> Tried {
-    let (bytes, _) = made(form, seed, index);
-    // Not the numbers that it was made from.
-    let trial = Trial::new(&mut Random::new(!seed, index), form.read(&bytes));
-    let trouble = differs(form, &bytes, &trial).or_else(|| round_trip(form, &bytes, &trial));
-    Tried {
-        length: bytes.len(),
-        outcome: trial.outcome,
-        trouble,
+/// The sheet or text of this seed and index. If it fails, or is looked at alone, it is shown.
+fn try_one(form: Form, seed: u64, index: u64, single: bool) -> Tried {
+    let try_bytes = |bytes: &[u8]| {
+        // Not the numbers that it was made from.
+        let trial = Trial::new(&mut Random::new(!seed, index), form.read(bytes));
+        let bytes = bytes.to_vec();
+        on_stated_stack(move || Tried {
+            length: bytes.len(),
+            trouble: differs(form, &bytes, &trial).or_else(|| round_trip(form, &bytes, &trial)),
+            outcome: trial.outcome,
+        })
+    };
+    let (bytes, kind) = made(form, seed, index);
+    let tried = try_bytes(&bytes);
+    let name = format!("seed {seed}, index {index} ({kind})");
+    if single {
+        println!("{name}, {}", shown(form, &bytes));
     }
+    if tried.trouble.is_some() {
+        let small = shrunk_bytes(form, &bytes, |bytes| try_bytes(bytes).trouble.is_some());
+        let text = try_bytes(&small).trouble.unwrap_or_default();
+        println!("FAIL: {name}, shrunk to {}\n{text}", shown(form, &small));
+    }
+    tried
 }
 
 fn input(form: Form, bytes: &[u8]) -> Input<'_> {
@@ -229,25 +190,6 @@ struct Tally {
     longest_accepted: usize,
 }
 
-impl Tried {
-    fn add_to(self, tally: &mut Tally) {
-        let (number, place, column) = match self.outcome {
-            Ok(_) => (0, 0, 0),
-            Err(refusal) => (refusal.number, refusal.place, refusal.column),
-        };
-        let (came, places) = tally.numbers.entry(number).or_default();
-        *came += 1;
-        places.insert(place);
-        if column > 0 {
-            tally.columns[column - 1] += 1;
-        }
-        if number == 0 {
-            tally.longest_accepted = tally.longest_accepted.max(self.length);
-        }
-        tally.count(self.trouble.is_none());
-    }
-}
-
 /// At how many places each number has to come; 0 is none of them, and 1 and 4 have few.
 const PLACES_IN_SHEETS: &[(u32, usize)] = &[
     (0, 1),
@@ -270,16 +212,31 @@ const PLACES_IN_TEXTS: &[(u32, usize)] = &[
 const FEWEST_IN_A_COLUMN: u64 = 15;
 
 impl Tally {
+    /// Adds one. Returns how many have failed so far.
+    fn add(&mut self, tried: Tried) -> u64 {
+        let (number, place, column) = match tried.outcome {
+            Ok(_) => (0, 0, 0),
+            Err(refusal) => (refusal.number, refusal.place, refusal.column),
+        };
+        let (came, places) = self.numbers.entry(number).or_default();
+        *came += 1;
+        places.insert(place);
+        if column > 0 {
+            self.columns[column - 1] += 1;
+        }
+        if number == 0 {
+            self.longest_accepted = self.longest_accepted.max(tried.length);
+        }
+        self.count(tried.trouble.is_none());
+        self.failed
+    }
+
     fn count(&mut self, ok: bool) {
         if ok {
             self.passed += 1;
         } else {
             self.failed += 1;
         }
-    }
-
-    fn tried(&self) -> u64 {
-        self.numbers.values().map(|(came, _)| came).sum()
     }
 
     fn show(&self, form: Form) {
@@ -295,10 +252,6 @@ impl Tally {
 
     /// A refusal that hardly came was hardly tested: that is a failure of its own.
     fn judge(&mut self, form: Form) {
-        if self.tried() < JUDGED_FROM {
-            println!("fewer than {JUDGED_FROM}: places and columns are not judged");
-            return;
-        }
         let (fewest_places, columns) = match form {
             Form::Sheet => (PLACES_IN_SHEETS, &self.columns[..]),
             Form::Text => (PLACES_IN_TEXTS, &[][..]),
@@ -334,7 +287,8 @@ impl Tally {
         }
         let by_hand = expected.clone().map(|tables| tables.said());
         let trial = Trial::new(&mut Random::new(0, 0), by_hand);
-        let trouble = trouble.or_else(|| differs(form, bytes, &trial));
+        let bytes = bytes.clone();
+        let trouble = trouble.or_else(|| on_stated_stack(move || differs(form, &bytes, &trial)));
         match &trouble {
             None => println!("{name}: ok"),
             Some(text) => println!("{name}: FAIL\n{text}"),

@@ -10,6 +10,9 @@ use std::ops::Range;
 use std::time::{Duration, Instant};
 
 use crate::form::Form;
+use crate::oracle::{self, Sheet, LINE};
+use crate::tables::Tables;
+use crate::writing;
 
 /// The most smaller cases that are tried, and the longest time that this may take.
 const MOST_TRIED: usize = 20_000;
@@ -64,6 +67,37 @@ impl Shrink for Input {
 pub fn shrunk_bytes(form: Form, bytes: &[u8], fails: impl Fn(&[u8]) -> bool) -> Vec<u8> {
     let bytes = bytes.to_vec();
     shrunk(Input { form, bytes }, |input| fails(&input.bytes)).bytes
+}
+
+/// A sheet or text in lines, in such a way that every byte can be seen.
+pub fn shown(form: Form, bytes: &[u8]) -> String {
+    let lines: Vec<&[u8]> = match form {
+        Form::Sheet => bytes.chunks(LINE).collect(),
+        Form::Text => bytes.split_inclusive(|&byte| byte == b'\n').collect(),
+    };
+    let lines = lines
+        .iter()
+        .map(|line| format!("\n  {}", line.escape_ascii()));
+    format!("{} bytes:{}", bytes.len(), lines.collect::<String>())
+}
+
+/// Smaller sheets with the same switches and faults.
+pub fn smaller_sheets(sheet: &Sheet) -> impl Iterator<Item = Sheet> {
+    let smaller: Vec<Vec<u8>> = sheets::smaller(&bytes_of(sheet)).collect();
+    let sizes = (sheet.switches, sheet.faults);
+    let accepted = smaller
+        .into_iter()
+        .filter_map(|bytes| oracle::read(&bytes).ok());
+    accepted.filter(move |less| (less.switches, less.faults) == sizes)
+}
+
+/// The sheet without a switch or a fault, by its point; none if it cannot do without.
+pub fn without_input(sheet: &Sheet, input: u32) -> Option<Sheet> {
+    oracle::read(&sheets::without_input(&bytes_of(sheet), input)).ok()
+}
+
+fn bytes_of(sheet: &Sheet) -> Vec<u8> {
+    writing::sheet(&Tables::of(sheet)).expect("right tables")
 }
 
 // ---- what the kinds of cases share

@@ -54,14 +54,27 @@ impl Line {
     }
 }
 
+fn lines_of(bytes: &[u8]) -> Rc<[Line]> {
+    bytes.chunks(LINE).map(Line::of).collect()
+}
+
+fn written(lines: &[Line]) -> Vec<u8> {
+    lines.iter().flat_map(Line::written).collect()
+}
+
+/// The sheet without a switch or a fault, by its point.
+pub fn without_input(bytes: &[u8], input: u32) -> Vec<u8> {
+    written(&without_point(&lines_of(bytes), input as i32))
+}
+
 pub fn smaller(bytes: &[u8]) -> impl Iterator<Item = Vec<u8>> + '_ {
-    let lines: Rc<[Line]> = bytes.chunks(LINE).map(Line::of).collect();
+    let lines = lines_of(bytes);
     let [switches, faults] = sizes(&lines);
     let fewer_lines = each(&lines, ranges(lines.len()), |lines, range| {
         vec![without_lines(lines, range)]
     });
     let fewer_inputs = each(&lines, 1..=switches + faults, |lines, input| {
-        vec![without_input(lines, input)]
+        vec![without_point(lines, input)]
     });
     let plain_lines = each(&lines, ranges(lines.len()), |lines, range| {
         vec![plain_lines(lines, range)]
@@ -73,8 +86,8 @@ pub fn smaller(bytes: &[u8]) -> impl Iterator<Item = Vec<u8>> + '_ {
         .chain(plain_lines)
         .chain(plain_bytes)
         .chain(lower_numbers);
-    let written = all.map(|lines| lines.iter().flat_map(Line::written).collect());
-    written.filter(move |less: &Vec<u8>| less != bytes)
+    let smaller = all.map(|lines| written(&lines));
+    smaller.filter(move |less| less != bytes)
 }
 
 /// What these lines are made into, for each of the places.
@@ -124,7 +137,7 @@ fn leave_out_point(lines: &mut [Line], left_out: i32, instead: i32) {
 }
 
 /// Without a switch or a fault, by its point. Another input takes its place in gates and rules.
-fn without_input(lines: &[Line], input: i32) -> Vec<Line> {
+fn without_point(lines: &[Line], input: i32) -> Vec<Line> {
     let [switches, _] = sizes(lines);
     let a_switch = input <= switches;
     let mut left = lines.to_vec();
@@ -212,35 +225,29 @@ mod tests {
     use super::*;
     use crate::generate::sheet;
 
-    fn lines(short: &str) -> Vec<Line> {
-        sheet(short).chunks(LINE).map(Line::of).collect()
-    }
-
-    fn bytes(lines: Vec<Line>) -> Vec<u8> {
-        lines.iter().flat_map(Line::written).collect()
+    fn left(short: &str, range: Range<usize>) -> Vec<u8> {
+        written(&without_lines(&lines_of(&sheet(short)), range))
     }
 
     #[test]
     fn gates_left_out() {
-        let short = lines("H 2 1; N 1; A 4 3; O 5 2; R 6; R 5; W -1; Z 7");
-        let left = bytes(without_lines(&short, 2..3));
-        assert_eq!(left, sheet("H 2 1; N 1; O 4 2; R 5; R 4; W -1; Z 6"));
-        let left = bytes(without_lines(&short, 1..4));
-        assert_eq!(left, sheet("H 2 1; R 1; R 1; W -1; Z 4"));
+        let short = "H 2 1; N 1; A 4 3; O 5 2; R 6; R 5; W -1; Z 7";
+        let one = sheet("H 2 1; N 1; O 4 2; R 5; R 4; W -1; Z 6");
+        assert_eq!(left(short, 2..3), one);
+        assert_eq!(left(short, 1..4), sheet("H 2 1; R 1; R 1; W -1; Z 4"));
     }
 
     #[test]
     fn a_wrong_count_stays_wrong() {
-        let left = bytes(without_lines(&lines("H 2 1; R 1; W; Z 9"), 1..3));
-        assert_eq!(left, sheet("H 2 1; Z 7"));
+        assert_eq!(left("H 2 1; R 1; W; Z 9", 1..3), sheet("H 2 1; Z 7"));
     }
 
     #[test]
     fn inputs_left_out() {
-        let short = lines("H 3 2; A 2 5; R 6; W 1 -2 -3; Z 4");
-        let left = bytes(without_input(&short, 2));
-        assert_eq!(left, sheet("H 2 2; A 1 4; R 5; W 1 -2; Z 4"));
-        let left = bytes(without_input(&short, 4));
-        assert_eq!(left, sheet("H 3 1; A 2 4; R 5; W 1 -2 -3; Z 4"));
+        let all = sheet("H 3 2; A 2 5; R 6; W 1 -2 -3; Z 4");
+        let no_switch = sheet("H 2 2; A 1 4; R 5; W 1 -2; Z 4");
+        assert_eq!(without_input(&all, 2), no_switch);
+        let no_fault = sheet("H 3 1; A 2 4; R 5; W 1 -2 -3; Z 4");
+        assert_eq!(without_input(&all, 4), no_fault);
     }
 }

@@ -230,11 +230,16 @@ fn of_point(r: &mut Random, sheet: &Sheet, point: u32, brackets: usize) -> Tree 
     bracket_if(more, tree)
 }
 
+/// The text of a sheet, with spaces and brackets more than it needs.
+pub(crate) fn written_out(r: &mut Random, sheet: &Sheet) -> Vec<u8> {
+    of_sheet(r, sheet).written(r)
+}
+
 /// The text of a sheet that makes the planner work.
 fn planning(r: &mut Random, class: Class) -> Vec<u8> {
     for _ in 0..20 {
         let sheet = whole(r, class).0;
-        let bytes = of_sheet(r, &sheet).written(r);
+        let bytes = written_out(r, &sheet);
         // Written out, a sheet may have too many gates or brackets. Some of these are kept.
         if read(&bytes).is_ok() || (class == Class::Small && r.one_in(8)) {
             return bytes;

@@ -16,6 +16,7 @@ const SMALL: u32 = 0x20;
 pub const MINUS_ZERO: u32 = 1;
 
 /// Tables, what they were made by and, if they are those of an accepted sheet, its bytes.
+#[derive(Clone)]
 pub struct Made {
     pub tables: Tables,
     pub kind: &'static str,
