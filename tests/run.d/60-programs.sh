@@ -48,7 +48,7 @@ counted "plan after failed reads" limited 60 "$failed_reads" "$plan" examples/*.
 counted "typed after failed reads" limited 60 "$failed_reads" "$typed" examples/*.text
 counted "as_sheet after failed reads" limited 60 "$failed_reads" "$as_sheet" examples/*.text
 
-# The runs that end in 9 take the brute force too long.
+# The stored run that ends in 9 takes the brute force too long; others like it are among the long lists.
 counted "plan against the second planner" \
     compare program "$plan" examples/*.sheet tests/runs/[0-8]*.sheet
 counted "typed against the second planner" \

@@ -71,7 +71,7 @@ impl Sheet {
 
 /// Reads a sheet, or says for which cause, the first in the order of the refusals, it is refused.
 pub fn read(bytes: &[u8]) -> Result<Sheet, Refusal> {
-    if bytes.is_empty() || bytes.len() > MAX_BYTES || bytes.len() % LINE != 0 {
+    if bytes.is_empty() || bytes.len() > MAX_BYTES || !bytes.len().is_multiple_of(LINE) {
         return Err(Refusal {
             number: BAD_LENGTH,
             place: 0,

@@ -222,14 +222,14 @@ impl<'a> Check<'a> {
     fn tables(&mut self, planner: &Planner) {
         let tables = Tables::of(&planner.sheet);
         let sheet = writing::sheet(&tables).expect("right tables");
-        let mut words = vec![Words::EMPTY];
-        let read = figures::read(self.input(), &mut words[0]);
+        let mut words = Words::EMPTY;
+        let read = figures::read(self.input(), &mut words);
         self.hold("number of the reading", read.number, 0);
-        self.claim(Tables::from(&words[0]) == tables, || {
-            format!("it is read as the second reader reads it: {:?}", words[0])
+        self.claim(Tables::from(&words) == tables, || {
+            format!("it is read as the second reader reads it: {words:?}")
         });
         let mut out = vec![0; sheet.len()];
-        let written = figures::write(&words[0], &mut out);
+        let written = figures::write(&words, &mut out);
         self.hold("number of the writing", written.number, 0);
         self.claim(out == sheet, || {
             let text = out.escape_ascii();

@@ -200,7 +200,9 @@ fn sheets() -> Vec<Example> {
 /// Every job on chains of 400 gates, in which each names the one before: these need most stack. With the one
 /// switch on the last gate is true, otherwise not.
 fn chains() -> Vec<Example> {
-    let links: [(&str, fn(usize) -> String); 5] = [
+    /// The gate that names the one before by this point.
+    type Link = fn(usize) -> String;
+    let links: [(&str, Link); 5] = [
         ("400 ands, the one before first", |before| {
             format!("A {before} 1; ")
         }),

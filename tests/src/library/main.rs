@@ -15,7 +15,7 @@ use std::process::ExitCode;
 use check::Check;
 use planner_tests::brute::Planner;
 use planner_tests::cases::{self, Cases};
-use planner_tests::counts::{LIMIT_SHEETS, LIMIT_TEXTS, SHEETS, TEXTS};
+use planner_tests::counts::{LIMITS, SHEETS, TEXTS};
 use planner_tests::effort::Effort;
 use planner_tests::form::Form;
 use planner_tests::limits::{Kind, Limit};
@@ -30,7 +30,7 @@ use tally::Calls;
 const SHOWN: usize = 4;
 
 /// The option that asks for sheets at the limits, whatever its number.
-const LIMITS: &str = "--limits";
+const AT_THE_LIMITS: &str = "--limits";
 
 /// The work at most for the sheets of a class, see `effort.rs`. With a faster library it can be raised: then more
 /// calls are made and longer lists tried.
@@ -56,7 +56,7 @@ fn limit_budget(kind: Kind) -> u64 {
 }
 
 fn main() -> ExitCode {
-    let names = [&[Form::OPTION, LIMITS][..], &cases::OPTIONS].concat();
+    let names = [&[Form::OPTION, AT_THE_LIMITS][..], &cases::OPTIONS].concat();
     let options = Options::from_command_line(&names).filter(|o| o.words.is_empty());
     let Some(options) = options else {
         let usage = format!(
@@ -66,12 +66,11 @@ fn main() -> ExitCode {
         return misused(&usage);
     };
     let form = Form::asked(&options);
-    let at_the_limits = options.number(LIMITS).is_some();
-    let count = match (form, at_the_limits) {
-        (Form::Sheet, false) => SHEETS,
-        (Form::Text, false) => TEXTS,
-        (Form::Sheet, true) => LIMIT_SHEETS,
-        (Form::Text, true) => LIMIT_TEXTS,
+    let at_the_limits = options.number(AT_THE_LIMITS).is_some();
+    let count = match form {
+        _ if at_the_limits => LIMITS,
+        Form::Sheet => SHEETS,
+        Form::Text => TEXTS,
     };
     let mut total = Total::default();
     if !at_the_limits {

@@ -6,6 +6,7 @@ pub mod ordered;
 pub mod parts;
 
 use crate::brute::{Planner, PROGRAM_ROOM};
+use crate::counts::LONG_LISTS;
 use crate::form::Form;
 use crate::generate::Random;
 use crate::oracle::{Sheet, MAX_FAULTS, MAX_GATES, MAX_RULES, MAX_SWITCHES, MAX_WISHES};
@@ -98,9 +99,8 @@ impl Kind {
     }
 }
 
-/// The seed of the long lists for the programs, and how many of them are not plain.
+/// The seed of the long lists for the programs.
 const LONG_SEED: u64 = 1;
-const LONG_LISTS: usize = 4;
 
 /// The most wishes where they are few.
 const FEW_WISHES: usize = 8;
@@ -131,7 +131,7 @@ impl Limit {
             [Relation::AtLeast, Relation::Differ].map(|r| Ordered::plain(size, r))
         });
         let r = &mut Random::new(LONG_SEED, 0);
-        let drawn = (0..LONG_LISTS).map(|_| {
+        let drawn = std::iter::repeat_with(|| {
             let faults = r.between(full as i32 + 1, MAX_FAULTS) as u32;
             Ordered::drawn(r, full + 1, faults, full + 1)
         });
@@ -141,7 +141,7 @@ impl Limit {
             index,
             made: Made::Ordered(ordered),
         };
-        (0..).zip(plain.chain(drawn)).map(limit).collect()
+        (0..LONG_LISTS).zip(plain.chain(drawn)).map(limit).collect()
     }
 
     pub fn bytes(&self) -> Vec<u8> {

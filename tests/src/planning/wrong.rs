@@ -78,9 +78,12 @@ impl Right {
     }
 }
 
-/// The wrong planners: whether each gives another answer.
+/// Whether a planner gives another answer.
+type Differs = fn(&Right) -> bool;
+
+/// The wrong planners.
 #[rustfmt::skip]
-const WRONG_PLANNERS: [(&str, fn(&Right) -> bool); 12] = [
+const WRONG_PLANNERS: [(&str, Differs); 12] = [
     ("a repeated wish left out", |right| right.not_counted(|k| usize::from(!right.same_set(k)))),
     ("a repeated wish left out if written in the same order", |right| {
         right.not_counted(|k| usize::from(!right.same_order(k)))
@@ -221,8 +224,11 @@ impl Stop<'_> {
     }
 }
 
+/// The column that a reader tells.
+type Told = fn(&Stop) -> usize;
+
 /// Ways to tell another column. Each gives the right one where it sees no cause for another.
-const WRONG_COLUMNS: [(&str, fn(&Stop) -> usize); 13] = [
+const WRONG_COLUMNS: [(&str, Told); 13] = [
     ("one too small", |s| s.column - 1),
     ("one too large", |s| s.column + 1),
     ("counted from the field's beginning", |s| {

@@ -68,9 +68,13 @@ fn lowered(bytes: &[u8], at: Range<usize>) -> Vec<Vec<u8>> {
 // ---- parts
 
 /// What can be left out together: one range, or a bracket and the one that closes it.
-struct Part(Vec<Range<usize>>);
+struct Part([Range<usize>; 2]);
 
 impl Part {
+    fn one(range: Range<usize>) -> Part {
+        Part([range, 0..0])
+    }
+
     fn length(&self) -> usize {
         self.0.iter().map(Range::len).sum()
     }
@@ -132,14 +136,14 @@ fn formula_parts(bytes: &[u8], words: &[Range<usize>], all: &mut Vec<Part>) {
         match sign(k) {
             b'&' | b'|' => {
                 let last = operand_after(words.len(), k + 1, &sign);
-                all.extend(last.map(|last| Part(vec![after(k, last)])));
+                all.extend(last.map(|last| Part::one(after(k, last))));
                 let first = operand_before(k, &sign);
-                all.extend(first.map(|first| Part(vec![before(first, k)])));
+                all.extend(first.map(|first| Part::one(before(first, k))));
             }
-            b'!' => all.push(Part(vec![before(k, k)])),
+            b'!' => all.push(Part::one(before(k, k))),
             b'(' => {
                 let close = operand_after(words.len(), k, &sign);
-                all.extend(close.map(|close| Part(vec![before(k, k), after(close, close)])));
+                all.extend(close.map(|close| Part([before(k, k), after(close, close)])));
             }
             _ => {}
         }
@@ -184,7 +188,7 @@ fn wish_parts(bytes: &[u8], words: &[Range<usize>], all: &mut Vec<Part>) {
             _ => word.start,
         };
         if sign(bytes, word) != b'!' {
-            all.push(Part(vec![first..word.end]));
+            all.push(Part::one(first..word.end));
         }
     }
 }

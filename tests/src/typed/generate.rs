@@ -563,6 +563,7 @@ fn leave_out(r: &mut Random, bytes: &mut Vec<u8>) {
     bytes.remove(at);
 }
 
+#[allow(clippy::ptr_arg)] // it is a damage like the others
 fn change(r: &mut Random, bytes: &mut Vec<u8>) {
     let at = r.below(bytes.len());
     bytes[at] = telling_byte(r);
@@ -630,6 +631,7 @@ fn carriage_return(r: &mut Random, bytes: &mut Vec<u8>) {
     }
 }
 
+#[allow(clippy::ptr_arg)] // it is a damage like the others
 fn capital(r: &mut Random, bytes: &mut Vec<u8>) {
     match r.below(4) {
         0 => bytes.make_ascii_uppercase(),

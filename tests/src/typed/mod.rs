@@ -267,7 +267,7 @@ mod tests {
         let ends = ["switches 0\nfaults 0\n", &rule, &and, "wish s1\n"];
         let ended = |end: &[u8]| right_grammar().reach(&[beginning, end].concat()).legal;
         ends.iter()
-            .any(|end| (0..=end.len()).any(|from| ended(end[from..].as_bytes())))
+            .any(|end| (0..=end.len()).any(|from| ended(&end.as_bytes()[from..])))
     }
 
     /// The part that is shared can go on, and with the next byte it cannot.

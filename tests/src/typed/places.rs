@@ -254,9 +254,9 @@ fn of_length(length: usize, end: &str) -> String {
         text += "(s1) & ";
     }
     // What is left are brackets: one more of them opens here than is closed before the end.
-    if (length - text.len()) % 2 == 0 {
+    if (length - text.len()).is_multiple_of(2) {
         text += "s1|";
     }
-    let open = (length - text.len() - "s1".len() - end.len() + 1) / 2;
+    let open = (length - text.len() - "s1".len() - end.len()).div_ceil(2);
     text + &"(".repeat(open) + "s1" + &")".repeat(open - 1) + end
 }

@@ -15,9 +15,11 @@ use crate::shrink::shrunk_bytes;
 
 type Read = Result<Sheet, Refusal>;
 
+type Reader = fn(&[u8]) -> Read;
+
 /// The wrong readers.
 #[rustfmt::skip]
-const WRONG: [(&str, fn(&[u8]) -> Read); 15] = [
+const WRONG: [(&str, Reader); 15] = [
     ("a depth of 33 let through", |b| within(b, Bounds { deepest: 33, ..LEGAL })),
     ("a depth of 32 refused", |b| within(b, Bounds { deepest: 31, ..LEGAL })),
     ("a leading zero let through", |b| within(b, Bounds { leading_zeros: true, ..LEGAL })),
