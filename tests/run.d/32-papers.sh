@@ -125,6 +125,8 @@ row_size=$((1 + 3 * columns + 1))
 printed=$((switches + wishes + room + 2))
 listing=$((printed * row_size))
 words=$((counts + gates * gate_size + rules + wishes * wish_size))
+# Measured, and said by the header.
+stack=$(sed -n 's/^#define COMZSERED_STACK \([0-9]*\)$/\1/p' "$header")
 
 # NAME VALUE, as the header defines them; the binding has those that it needs under the same names.
 cat >"$work/limits" <<END
@@ -138,6 +140,7 @@ SHEET_MAX $sheet
 TEXT_MAX $text
 LIST_MAX $list
 LISTING_MAX $listing
+STACK $stack
 TABLES_WORDS $words
 END
 sed -n 's/^#define COMZSERED_\([A-Z_]*\) \([0-9]*\)$/\1 \2/p' "$header" | grep -v '^VERSION' >"$work/found"

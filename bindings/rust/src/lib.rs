@@ -369,25 +369,6 @@ pub fn write(tables: &Tables) -> Result<Vec<u8>, Refusal> {
 mod tests {
     use super::*;
 
-    #[test]
-    fn constants_of_the_header() {
-        let header = include_str!("../../../include/comzsered.h");
-        for (name, value) in [
-            ("GATES_MAX", GATES_MAX),
-            ("RULES_MAX", RULES_MAX),
-            ("WISHES_MAX", WISHES_MAX),
-            ("LITERALS_MAX", LITERALS_MAX),
-            ("SHEET_MAX", SHEET_MAX),
-            ("TEXT_MAX", TEXT_MAX),
-            ("LIST_MAX", LIST_MAX),
-            ("LISTING_MAX", LISTING_MAX),
-            ("STACK", STACK),
-        ] {
-            let line = format!("#define COMZSERED_{name} {value}\n");
-            assert!(header.contains(&line), "{line}");
-        }
-    }
-
     /// A sheet written short, as "H 1 0; Z 1": numbers left out are 0.
     pub fn sheet(short: &str) -> Vec<u8> {
         let mut bytes = Vec::new();
