@@ -21,9 +21,20 @@ const GUARD: usize = 8;
 pub struct Check<'a> {
     form: Form,
     bytes: &'a [u8],
+    seed: u64,
+    index: u64,
     r: Random,
     pub calls: Calls,
     pub troubles: Vec<String>,
+}
+
+/// What random choices are made for. Each has numbers of its own, so that it chooses alike on a smaller sheet.
+#[derive(Clone, Copy)]
+enum Choice {
+    Buffers,
+    Rooms,
+    Lists,
+    Plans,
 }
 
 /// The figures in the brute force's own type.
@@ -56,11 +67,16 @@ impl<'a> Check<'a> {
         Check {
             form,
             bytes,
-            // Not the numbers that the bytes were made from.
-            r: Random::new(!seed, index),
+            seed,
+            index,
+            r: random(seed, index, Choice::Buffers),
             calls: Calls::default(),
             troubles: Vec::new(),
         }
+    }
+
+    fn choose(&mut self, what: Choice) {
+        self.r = random(self.seed, self.index, what);
     }
 
     fn input(&self) -> Input<'a> {
@@ -77,7 +93,7 @@ impl<'a> Check<'a> {
     fn hold<T: PartialEq + std::fmt::Debug>(&mut self, what: &str, got: T, expected: T) {
         if got != expected {
             self.trouble(format!(
-                "{what}:\n  brute force: {expected:?}\n  library:     {got:?}"
+                "{what}:\n  expected:    {expected:?}\n  library:     {got:?}"
             ));
         }
     }
@@ -152,7 +168,7 @@ impl<'a> Check<'a> {
             let printed = out[..got.min(length)].escape_ascii();
             self.trouble(format!(
                 "listing: byte {at}, counted from 0, is {} and not {}\n  \
-                 brute force: {}\n  library:     {printed}",
+                 expected:    {}\n  library:     {printed}",
                 out[at],
                 after[at],
                 expected.escape_default()
@@ -240,6 +256,7 @@ impl<'a> Check<'a> {
     /// Answer with several rooms: for the whole list, for none, for less and for more. Returns the
     /// words of the longest list that the library wrote.
     fn answers(&mut self, planner: &Planner, run: &Run, effort: &mut Effort) -> Vec<u32> {
+        self.choose(Choice::Rooms);
         let length = run.list.len();
         // Of a run that was left, one word more is known than there may be room for.
         let whole = if run.end == End::Left {
@@ -337,6 +354,7 @@ impl<'a> Check<'a> {
 
     /// Short run over lists that no Answer made.
     fn other_lists(&mut self, planner: &Planner, run: &Run, effort: &mut Effort) {
+        self.choose(Choice::Lists);
         let patterns = planner.patterns();
         let mut lists = Vec::new();
         let mut shuffled = run.list.clone();
@@ -379,6 +397,7 @@ impl<'a> Check<'a> {
 
     /// Rating of every plan if they are few, of some if not, and of such as there are not.
     fn ratings(&mut self, planner: &Planner, run: &Run, effort: &mut Effort) {
+        self.choose(Choice::Plans);
         let plans = planner.plans();
         let mut rated: Vec<u32> = match plans {
             0..=32 => (0..plans).collect(),
@@ -398,6 +417,11 @@ impl<'a> Check<'a> {
             self.rating(plan, planner.rating(plan));
         }
     }
+}
+
+fn random(seed: u64, index: u64, what: Choice) -> Random {
+    // Not the numbers that the bytes were made from.
+    Random::new((!seed).wrapping_sub(what as u64), index)
 }
 
 /// Where two different slices of one length begin to differ.

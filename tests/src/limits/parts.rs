@@ -321,16 +321,8 @@ fn more_gates(r: &mut Random, sheet: &mut Sheet, left: usize, form: Form) -> boo
 // ---- shrinking
 
 impl Shrink for Parts {
+    /// Switches go early, as each halves the time that further tries take.
     fn smaller(&self) -> Box<dyn Iterator<Item = Parts> + '_> {
-        let fewer = (0..self.parts.len()).map(|k| {
-            let mut less = self.clone();
-            less.parts.remove(k);
-            less
-        });
-        let closer = std::iter::once_with(|| self.only_used()).filter(|less| {
-            let inputs = |parts: &Parts| parts.switches + parts.faults;
-            inputs(less) < inputs(self)
-        });
         let smaller_parts = (0..self.parts.len()).flat_map(move |k| {
             let sheets = smaller_sheets(&self.parts[k].sheet);
             sheets.map(move |sheet| {
@@ -339,15 +331,8 @@ impl Shrink for Parts {
                 less
             })
         });
-        let fewer_inputs = (0..self.parts.len()).flat_map(move |k| {
-            let inputs = 0..self.inputs(&self.parts[k]).len();
-            inputs.filter_map(move |input| {
-                let mut less = self.clone();
-                less.parts[k] = self.parts[k].without(input)?;
-                Some(less)
-            })
-        });
-        Box::new(fewer.chain(closer).chain(smaller_parts).chain(fewer_inputs))
+        let closed_up = self.fewer_inputs().map(Parts::closed_up);
+        Box::new(closed_up.chain(smaller_parts).chain(self.fewer_inputs()))
     }
 }
 
@@ -365,17 +350,32 @@ impl Part {
 }
 
 impl Parts {
+    /// Without a part, or without a switch or fault of a part. What is left keeps its numbers.
+    fn fewer_inputs(&self) -> impl Iterator<Item = Parts> + '_ {
+        let fewer_parts = (0..self.parts.len()).map(|k| {
+            let mut less = self.clone();
+            less.parts.remove(k);
+            less
+        });
+        let smaller_parts = (0..self.parts.len()).flat_map(move |k| {
+            let part = &self.parts[k];
+            let inputs = 0..part.switches.len() + part.faults.len();
+            inputs.filter_map(move |input| {
+                let mut less = self.clone();
+                less.parts[k] = part.without(input)?;
+                Some(less)
+            })
+        });
+        fewer_parts.chain(smaller_parts)
+    }
+
     /// Without the switches and faults that no part has.
-    fn only_used(&self) -> Parts {
-        let mut less = self.clone();
-        less.switches = closed_up(
-            less.parts
-                .iter_mut()
-                .map(|part| &mut part.switches)
-                .collect(),
-        );
-        less.faults = closed_up(less.parts.iter_mut().map(|part| &mut part.faults).collect());
-        less
+    fn closed_up(mut self) -> Parts {
+        let switches = self.parts.iter_mut().map(|part| &mut part.switches);
+        self.switches = closed_up(switches.collect());
+        let faults = self.parts.iter_mut().map(|part| &mut part.faults);
+        self.faults = closed_up(faults.collect());
+        self
     }
 }
 

@@ -16,7 +16,7 @@ use crate::writing;
 
 /// The most smaller cases that are tried, and the longest time that this may take.
 const MOST_TRIED: usize = 20_000;
-const LONGEST: Duration = Duration::from_secs(10);
+const LONGEST: Duration = Duration::from_secs(20);
 
 /// A case that can be made smaller in single steps.
 pub trait Shrink: Sized {
