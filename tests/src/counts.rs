@@ -10,7 +10,7 @@ pub const READ_SHEETS: u64 = 100_000;
 pub const READ_TEXTS: u64 = 40_000;
 /// Tables written.
 pub const TABLES: u64 = 80_000;
-/// Inputs of each program, and those with long lists.
+/// Inputs of each program, and those with long lists of each that answers.
 pub const RUNS: u64 = 1_500;
 pub const LONG_LISTS: u64 = 8;
 
@@ -56,7 +56,7 @@ mod tests {
             format!("on {limits} sheets and {limits} texts at the limits"),
             format!("| {read_sheets} sheets and {read_texts} texts, whole"),
             format!("| {tables} tables, right and damaged"),
-            format!("| {runs} sheets or texts, and {long} with long lists"),
+            format!("| {runs} sheets or texts through each program, and {long} with long lists"),
         ] {
             assert!(says(OWN, &text), "{text}");
         }

@@ -3,7 +3,7 @@
 
 mod sheets;
 mod tables;
-pub(crate) mod texts;
+mod texts;
 
 use std::iter::successors;
 use std::ops::Range;

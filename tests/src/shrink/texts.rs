@@ -4,6 +4,7 @@
 use std::ops::Range;
 
 use super::{lower, ranges, without};
+use crate::typed::generate::{lines, numbers};
 
 pub fn smaller(bytes: &[u8]) -> impl Iterator<Item = Vec<u8>> + '_ {
     let lines: Vec<&[u8]> = bytes.split_inclusive(|&byte| byte == b'\n').collect();
@@ -31,26 +32,6 @@ fn with_plain(lines: &[&[u8]], range: Range<usize>) -> Vec<u8> {
         *line = same_keyword.unwrap_or(line);
     }
     lines.concat()
-}
-
-/// The lines, with their line feeds.
-pub fn lines(bytes: &[u8]) -> Vec<Range<usize>> {
-    let mut from = 0;
-    let each = bytes.split_inclusive(|&byte| byte == b'\n');
-    each.map(|line| {
-        from += line.len();
-        from - line.len()..from
-    })
-    .collect()
-}
-
-/// The numbers.
-pub fn numbers(bytes: &[u8]) -> Vec<Range<usize>> {
-    let digit = |at: usize| bytes.get(at).is_some_and(u8::is_ascii_digit);
-    let first = |&at: &usize| digit(at) && (at == 0 || !digit(at - 1));
-    let starts = (0..bytes.len()).filter(first);
-    let end = |at: usize| (at..=bytes.len()).find(|&to| !digit(to)).unwrap_or(at);
-    starts.map(|at| at..end(at)).collect()
 }
 
 fn lowered(bytes: &[u8], at: Range<usize>) -> Vec<Vec<u8>> {

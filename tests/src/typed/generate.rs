@@ -8,7 +8,6 @@ use super::{read, MAX_TEXT};
 use crate::generate::{odd_byte, Random};
 use crate::oracle::{Sheet, LITERALS, MAX_FAULTS, MAX_GATES, MAX_RULES, MAX_SWITCHES, MAX_WISHES};
 use crate::planning::{class, light, whole, Class, Made};
-use crate::shrink::texts::{lines, numbers};
 
 // ---- formulas
 
@@ -534,6 +533,26 @@ fn words(r: &mut Random) -> Vec<u8> {
 }
 
 // ---- damage
+
+/// The lines, with their line feeds.
+pub(crate) fn lines(bytes: &[u8]) -> Vec<Range<usize>> {
+    let mut from = 0;
+    let each = bytes.split_inclusive(|&byte| byte == b'\n');
+    each.map(|line| {
+        from += line.len();
+        from - line.len()..from
+    })
+    .collect()
+}
+
+/// The numbers.
+pub(crate) fn numbers(bytes: &[u8]) -> Vec<Range<usize>> {
+    let digit = |at: usize| bytes.get(at).is_some_and(u8::is_ascii_digit);
+    let first = |&at: &usize| digit(at) && (at == 0 || !digit(at - 1));
+    let starts = (0..bytes.len()).filter(first);
+    let end = |at: usize| (at..=bytes.len()).find(|&to| !digit(to)).unwrap_or(at);
+    starts.map(|at| at..end(at)).collect()
+}
 
 /// Where this byte stands.
 fn all_of(bytes: &[u8], wanted: &[u8]) -> Vec<usize> {
