@@ -246,7 +246,7 @@ run_copy() { # FOLDERS
 }
 all=$work/rt:$work/cargo:$work/tools
 target/bin/plan <"$sample" >"$work/direct"
-building="planner: proving and building, once after each change; from nothing this takes about three minutes"
+building="planner: proving and building, once after each change; from nothing this takes about five minutes"
 prove='rt check plan typed as_sheet,'
 
 # One test: the copy was built by these calls, said so in one line, and answered.
