@@ -67,6 +67,7 @@ minus_decimal (suc w) n = by_digits (λ s. has_minus s ≡ false) w n
 length_decimal : (w v n : ℕ) → n < 10 ^ v → 1 ≤ v → length (decimal w n) ≤ v
 unfolding decimal
 length_decimal zero v n h l = omega arith
+length_decimal (suc w) zero n h l = elim l [ ]
 length_decimal (suc w) (suc v) n h l = by_digits (λ s. length s ≤ suc v) w n
     (λ k. omega arith)
     (λ k. more v h k (length_decimal w v))

@@ -44,12 +44,11 @@ module _ (n : ℕ) (wide : 3 ≤ n) (u : List ℕ) where
 
 -- ---- which numbers: the lines stand in order, so 3 and 7 are none of them
 
+past_true : {c : ℕ} {ts : List Test} → First c ((3, true) ∷ ts) → First c ts
+past_true (later f) = f
+
 past_three : {k c : ℕ} {a b d : Bool} → a ≡ true → First c ((3, a) ∷ (5, b) ∷ (6, d) ∷ []) → TablesRefusal c (suc k) 0
-past_three {k} {c} {a} {b} {d} e f = go a e f
-  where
-    go : (a : Bool) → a ≡ true → First c ((3, a) ∷ (5, b) ∷ (6, d) ∷ []) → TablesRefusal c (suc k) 0
-    go true e (later f) = first_in (λ c. TablesRefusal c (suc k) 0) ((5, b) ∷ (6, d) ∷ []) (too_many, (wrong_field, tt)) f
-    go false e f = clash e refl
+past_three {k} {c} {a} {b} {d} e f = first_in (λ c. TablesRefusal c (suc k) 0) ((5, b) ∷ (6, d) ∷ []) (too_many, (wrong_field, tt)) (past_true (subst (λ a. First c ((3, a) ∷ (5, b) ∷ (6, d) ∷ [])) e f))
 
 past_first : {c : ℕ} {b d : Bool} → First c ((3, true) ∷ (4, b) ∷ (6, d) ∷ []) → TablesRefusal c 1 0
 past_first {b} {d} (later f) = first_in (λ c. TablesRefusal c 1 0) ((4, b) ∷ (6, d) ∷ []) (out_of_range, (wrong_field, tt)) f

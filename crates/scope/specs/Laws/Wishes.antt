@@ -18,6 +18,7 @@ use Rattle.scope.specs.Laws.Tests.{clash}
 module _ (v : ℕ → Bool) where
   in_keeps : (x : Number) (w : Clause) → Memᴰ x w → literal_true v x ≡ true → keeps v w ≡ true
   unfolding keeps
+  in_keeps x [] i e = elim i [ ]
   in_keeps x (y ∷ w) (Memᴰ.head h) e = rw (ap (literal_true v) (sym h) ∙ e)
   in_keeps x (y ∷ w) (Memᴰ.tail i) e = rw (in_keeps x w i e) (or-true (literal_true v y))
 
