@@ -14,8 +14,8 @@ use Rattle.scope.specs.Jobs.{Answer, Result, Rating, answered, refusal, found, a
 use Rattle.scope.specs.Source.{Gives}
 use Rattle.scope.specs.Program.{each, rows_bytes, output_rows, output, sheet_input}
 use Rattle.scope.specs.Sheets.{SheetRead}
-use Rattle.scope.specs.Claims.{sheet_read, sheet_gives}
-use Rattle.scope.specs.Laws.Alls.{all_imply}
+use Rattle.scope.proofs.Claims.{sheet_read, sheet_gives}
+use Rattle.scope.proofs.Laws.Alls.{all_imply}
 
 -- the sample sheet of docs/FORMAT.md
 abbrev pub sample : List String

@@ -13,8 +13,8 @@ use Rattle.scope.specs.Jobs.{Answer, answered, refusal, found, answer_of, IsAnsw
 use Rattle.scope.specs.Source.{Gives}
 use Rattle.scope.specs.Texts.{TextRead}
 use Rattle.scope.specs.Program.{each, rows_bytes, output_rows, output, converted, text_input}
-use Rattle.scope.specs.Claims.{text_read, text_gives}
-use Rattle.scope.specs.Laws.Alls.{all_imply}
+use Rattle.scope.proofs.Claims.{text_read, text_gives}
+use Rattle.scope.proofs.Laws.Alls.{all_imply}
 
 -- E3, typed
 abbrev pub sample : List ℕ

@@ -14,8 +14,8 @@ use Rattle.scope.specs.Words.{gate_size, wish_size, gates_from, word_count, no_g
 use Rattle.scope.specs.Filling.{ReadResult, read_result, read_into, IsRead}
 use Rattle.scope.specs.Writing.{tests_from, WriteResult, written, written_of, IsWritten}
 use Rattle.scope.specs.Checking.{read_tables}
-use Rattle.scope.specs.Claims.{sheet_gives, tables_give, words_hold}
-use Rattle.scope.specs.Laws.Alls.{all_imply}
+use Rattle.scope.proofs.Claims.{sheet_gives, tables_give, words_hold}
+use Rattle.scope.proofs.Laws.Alls.{all_imply}
 
 -- three gates, a rule and two wishes: of switch 1 off or 2 on, and of nothing
 abbrev pub sample : List String

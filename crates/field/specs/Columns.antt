@@ -5,7 +5,7 @@ use Rattle.std.proofs.Math.Option.{Option, none, some}
 use Rattle.scope.specs.Sheet as scope
 use Rattle.scope.specs.Sheet.{number, field_size}
 use Rattle.scope.specs.Reading.{when, field_of}
-use Rattle.scope.specs.Laws.Beginnings.{Stop, field_begins}
+use Rattle.scope.proofs.Laws.Beginnings.{Stop, field_begins}
 use Rattle.field.specs.declared.Scan.{Scan}
 use Rattle.field.specs.declared.Scan.TheVariants.{Blank, Minus, Number, Bad}
 use Rattle.field.specs.declared.Number as made

@@ -3,13 +3,13 @@ use Rattle.std.specs.Prelude.{ℕ, zero, suc, ◌+◌, ◌-◌, ◌*◌, ◌/◌
 use Prim.Native.Char.{code}
 use Rattle.std.proofs.Common.{pow-suc, add-one, arith, append_assoc, append-nil, sym, ap, ◌∙◌, length-take-le, take-suc, ne_eqb, leb-true, ltb-true}
 use Rattle.scope.specs.Sheet.{Number, number, plus, field_size, digit, decimal, signed, justified, field, fits, fields_bytes}
-use Rattle.scope.specs.Laws.Tests.{clash, both}
+use Rattle.scope.proofs.Laws.Tests.{clash, both}
 use Rattle.scope.specs.Causes.{line_size}
-use Rattle.scope.specs.Laws.Lists.{length_snoc}
-use Rattle.scope.specs.Laws.Alls.{all_take}
-use Rattle.scope.specs.Laws.Fields.{by_digits}
-use Rattle.scope.specs.Laws.Digits.{spaces_snoc, signed_snoc}
-use Rattle.scope.specs.Laws.Lines.{Fit, length_fields}
+use Rattle.scope.proofs.Laws.Lists.{length_snoc}
+use Rattle.scope.proofs.Laws.Alls.{all_take}
+use Rattle.scope.proofs.Laws.Fields.{by_digits}
+use Rattle.scope.proofs.Laws.Digits.{spaces_snoc, signed_snoc}
+use Rattle.scope.proofs.Laws.Lines.{Fit, length_fields}
 use Rattle.field.specs.Put.{put, put_next}
 
 -- what stands directly before the first digit

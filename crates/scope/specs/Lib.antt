@@ -19,7 +19,3 @@ pub mod Program
 pub mod Reading
 pub mod Parsing
 pub mod Checking
--- what is claimed of all this
-pub mod Claims
--- proved of them
-pub mod Laws

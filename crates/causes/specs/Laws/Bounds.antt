@@ -7,10 +7,10 @@ use Rattle.std.proofs.Common.{ltb-true}
 use Rattle.scope.specs.Sheet.{Number, Sheet, Letter, H, N, A, O, R, W, Z, Line, most_switches, most_faults, most_gates, most_rules, most_wishes}
 use Rattle.scope.specs.Causes.{up_to, at, tests, started, make, Met}
 use Rattle.scope.specs.Reading.{tests_of, add, line_at, tests_at}
-use Rattle.scope.specs.Laws.Scans.{before, Passed}
-use Rattle.scope.specs.Laws.Tests.{both}
-use Rattle.scope.specs.Laws.Lists.{length_snoc}
-use Rattle.scope.specs.Laws.Steps.{up_plus}
+use Rattle.scope.proofs.Laws.Scans.{before, Passed}
+use Rattle.scope.proofs.Laws.Tests.{both}
+use Rattle.scope.proofs.Laws.Lists.{length_snoc}
+use Rattle.scope.proofs.Laws.Steps.{up_plus}
 
 pub record Bounds (t : Sheet) : Type 0 where
   pub switches : t.switches ≤ most_switches

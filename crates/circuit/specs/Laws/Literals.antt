@@ -7,7 +7,7 @@ use Rattle.std.proofs.Math.Dec.{eqb}
 use Rattle.scope.specs.Sheet.{Clause, All, Among, Wish}
 use Rattle.scope.specs.Meaning.{any, literal_true, keeps}
 use Rattle.scope.specs.Words.{literal_from, clause_of}
-use Rattle.scope.specs.Laws.Alls.{all_parts}
+use Rattle.scope.proofs.Laws.Alls.{all_parts}
 use Rattle.circuit.specs.Steps.{literals_of}
 
 any_append : {A : Type 0} (f : A → Bool) (s t : List A) → any (s ++ t) f ≡ (any s f || any t f)

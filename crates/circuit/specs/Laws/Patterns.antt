@@ -10,8 +10,8 @@ use Rattle.scope.specs.Sheet.{Sheet}
 use Rattle.scope.specs.Meaning.{all, patterns, passes}
 use Rattle.scope.specs.Rule.{missed}
 use Rattle.scope.specs.Jobs.{task}
-use Rattle.scope.specs.Laws.Tests.{clash}
-use Rattle.scope.specs.Laws.Picks.{pick_iff}
+use Rattle.scope.proofs.Laws.Tests.{clash}
+use Rattle.scope.proofs.Laws.Picks.{pick_iff}
 
 -- ---- the rules from i on
 module _ (v : ℕ → Bool) (s : List ℕ) (i : ℕ) where

@@ -6,7 +6,7 @@ use Rattle.std.proofs.Math.Path.{sym}
 use Rattle.scope.specs.Sheet.{Sheet, most_switches, most_faults, most_gates, points, Among, Names, Valid}
 use Rattle.scope.specs.Meaning.{bits, nth, gate_truth, switch_on, truth}
 use Rattle.scope.specs.Words.{no_gate, held}
-use Rattle.scope.specs.Laws.Points.{truth_switch, truth_fault, truth_gate}
+use Rattle.scope.proofs.Laws.Points.{truth_switch, truth_fault, truth_gate}
 use Rattle.words.specs.declared.counts.Counts.{Counts}
 use Rattle.words.specs.declared.gate.Gate.{Gate}
 use Rattle.words.specs.Entries.{gate_from, counts_at, gate_words_at}

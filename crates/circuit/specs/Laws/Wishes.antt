@@ -6,7 +6,7 @@ use Rattle.std.proofs.Math.Seq.{drop-cons}
 use Rattle.scope.specs.Sheet.{Sheet, sheet}
 use Rattle.scope.specs.Meaning.{switch_on, kept, costs}
 use Rattle.scope.specs.Words.{word, wish_at, held}
-use Rattle.scope.specs.Laws.Wishes.{cost_most, cost_one, cost_together}
+use Rattle.scope.proofs.Laws.Wishes.{cost_most, cost_one, cost_together}
 use Rattle.words.specs.Laws.Held.{held_wishes, held_wish}
 
 module _ (s : List ℕ) where

@@ -9,7 +9,7 @@ use Rattle.scope.specs.Sheet.{Sheet, sheet, Gate}
 use Rattle.scope.specs.Typed.{Formula, typed, ors, factor, most_nested, operators, point, gates_of, known}
 use Rattle.scope.specs.Parsing as parsing
 use Rattle.scope.specs.Parsing.{Around, line, Slot, digits, zero_ok, number_done, bracket, first, head, bang, nested, operand, after, operand_done}
-use Rattle.scope.specs.Laws.Tests.{clash}
+use Rattle.scope.proofs.Laws.Tests.{clash}
 use Rattle.words.specs.Entries.{Kept}
 use Rattle.scanner.specs.Look.{end, look, skip}
 use Rattle.scanner.specs.Tokens.{Came}

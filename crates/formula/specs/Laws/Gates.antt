@@ -5,7 +5,7 @@ use Rattle.std.proofs.Common.{arith, append_assoc, sym, ap, ap₂, subst, ◌∙
 use Rattle.scope.specs.Sheet.{Sheet, sheet, Gate}
 use Rattle.scope.specs.Typed.{Formula, Level, most_text, operators, point, gates_of, known}
 use Rattle.scope.specs.Words.{gate_words}
-use Rattle.scope.specs.Laws.Tests.{clash}
+use Rattle.scope.proofs.Laws.Tests.{clash}
 use Rattle.words.specs.Entries.{Kept}
 use Rattle.formula.specs.Formulas.{Built, Filled, LevelCame, LevelStuck, Good, LevelRead, Asked, gated, Joined}
 use Rattle.formula.specs.declared.parsed.Parsed.{Parsed}

@@ -9,7 +9,7 @@ use borrow.Author.Tests.{eqb-true, eq-eqb}
 use Prim.Native.Char.{code}
 use Rattle.scope.specs.Typed.{Formula, Level, ors, ands, factor, most_nested, operators}
 use Rattle.scope.specs.Parsing.{Around, first, bar, head, amp, nested, operand, after, operand_done, joined_or, outside}
-use Rattle.scope.specs.Laws.Tests.{clash}
+use Rattle.scope.proofs.Laws.Tests.{clash}
 use Rattle.scanner.specs.Look.{end, skip}
 use Rattle.scanner.specs.Tokens.{Came}
 use Rattle.formula.specs.Formulas.{OrsCome, LevelRead, Asked, and_sign, or_sign, sign_at, operand_at, goes_on, bytes_left, Ends, Joined, OrGated, OrsTurn}

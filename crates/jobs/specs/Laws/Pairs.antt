@@ -6,8 +6,8 @@ use Rattle.scope.specs.Causes.{Read}
 use Rattle.scope.specs.Source.{Source}
 use Rattle.scope.specs.Jobs.{Answer, Result, answer_of, short_of}
 use Rattle.scope.specs.Demands.{listed, Runs}
-use Rattle.scope.specs.Claims.{demand3}
-use Rattle.scope.specs.Laws.Outputs.{listed_small}
+use Rattle.scope.proofs.Claims.{demand3}
+use Rattle.scope.proofs.Laws.Outputs.{listed_small}
 use Rattle.jobs.specs.declared.outcome.Outcome.{Outcome}
 use Rattle.jobs.specs.Figures.{answer_from}
 

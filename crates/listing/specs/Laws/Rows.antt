@@ -8,8 +8,8 @@ use Rattle.std.proofs.Math.Seq.{take-length}
 use Rattle.scope.specs.Sheet.{plus}
 use Rattle.scope.specs.Jobs.{over}
 use Rattle.scope.specs.Program.{output_fields, Row, row, rows_bytes, each}
-use Rattle.scope.specs.Laws.Lines.{length_fields}
-use Rattle.scope.specs.Laws.Outputs.{row_fits}
+use Rattle.scope.proofs.Laws.Lines.{length_fields}
+use Rattle.scope.proofs.Laws.Outputs.{row_fits}
 use Rattle.field.specs.Columns.{number_from}
 use Rattle.line.specs.Lines.{numbers_from}
 use Rattle.field.specs.declared.Number.{Number}

@@ -12,8 +12,8 @@ use Rattle.scope.specs.Writing.{WriteResult, written_of, IsWritten}
 use Rattle.scope.specs.Source.{Source}
 use Rattle.scope.specs.Jobs.{refusal, answered, answer_of}
 use Rattle.scope.specs.Program.{Row, room, output, output_rows, listing_result, converted, converted_of, IsConverted}
-use Rattle.scope.specs.Claims.{converted_fits}
-use Rattle.scope.specs.Laws.TableReads.{valid_read}
+use Rattle.scope.proofs.Claims.{converted_fits}
+use Rattle.scope.proofs.Laws.TableReads.{valid_read}
 use Rattle.words.specs.declared.refusal.Cause.{Cause}
 use Rattle.words.specs.Told.{told}
 use Rattle.listing.specs.Rows.{Wrote}

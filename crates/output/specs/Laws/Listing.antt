@@ -11,7 +11,7 @@ use Rattle.scope.specs.Words.{held}
 use Rattle.scope.specs.Jobs.{Result, refusal, Answer, answer_of, over}
 use Rattle.scope.specs.Demands.{listed}
 use Rattle.scope.specs.Program.{Row, row, each, pattern_row, found_rows, plan_rows, third, answer_rows, ended, room, output_rows, rows_bytes, output, most_output, ListingResult, listing_result, placed, listing_of, IsListing}
-use Rattle.scope.specs.Laws.Outputs.{output_fits, listed_small}
+use Rattle.scope.proofs.Laws.Outputs.{output_fits, listed_small}
 use Rattle.words.specs.declared.refusal.Cause.{Cause}
 use Rattle.words.specs.Told.{told}
 use Rattle.listing.specs.Rows.{Wrote, Small}

@@ -6,7 +6,7 @@ use Rattle.scope.specs.Causes.{Read}
 use Rattle.scope.specs.Source.{Source, Form, ReadFrom}
 use Rattle.scope.specs.Filling.{read_into, IsRead}
 use Rattle.scope.specs.Words.{held, words_of}
-use Rattle.scope.specs.Claims.{form_source}
+use Rattle.scope.proofs.Claims.{form_source}
 use Rattle.words.specs.declared.refusal.Cause.{Cause}
 use Rattle.words.specs.Told.{told, Fills}
 use Rattle.planner.specs.Returned.{read_from}

@@ -9,9 +9,9 @@ use Rattle.std.proofs.Common.{◌∙◌, ne_eqb}
 use Rattle.std.proofs.Math.ListN.{length, length-drop}
 use Rattle.std.proofs.Math.Seq.{drop-drop}
 use Rattle.scope.specs.Parsing.{Slot, State, stuck, word, digits, second, number_done, zero_ok, is_digit, move, step, at_end, walk}
-use Rattle.scope.specs.Laws.Tests.{clash}
-use Rattle.scope.specs.Laws.Reached.{digit_byte}
-use Rattle.scope.specs.Laws.Walked.{number_plain}
+use Rattle.scope.proofs.Laws.Tests.{clash}
+use Rattle.scope.proofs.Laws.Reached.{digit_byte}
+use Rattle.scope.proofs.Laws.Walked.{number_plain}
 use Rattle.scanner.specs.Look.{look, shared, standing, past}
 use Rattle.scanner.specs.Tokens.{Came, rest, WordRead, NumberRead, NamedRead}
 use Rattle.scanner.specs.declared.token.Token.{Token}

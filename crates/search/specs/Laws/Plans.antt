@@ -6,9 +6,9 @@ use Rattle.std.proofs.Math.Path.{refl}
 use Rattle.std.proofs.Common.{sym, ap, ◌∙◌}
 use Rattle.scope.specs.Pick.{keep, pick}
 use Rattle.scope.specs.Rule.{Task, passes_all, best}
-use Rattle.scope.specs.Laws.Tests.{clash}
-use Rattle.scope.specs.Laws.Picks.{pick_next}
-use Rattle.scope.specs.Laws.Rules.{passes_at}
+use Rattle.scope.proofs.Laws.Tests.{clash}
+use Rattle.scope.proofs.Laws.Picks.{pick_next}
+use Rattle.scope.proofs.Laws.Rules.{passes_at}
 use Rattle.search.specs.declared.best.Best.{Best}
 use Rattle.search.specs.declared.best.Best.TheVariants.{Nothing, At}
 use Rattle.search.specs.Answers.{best_of, Priced}

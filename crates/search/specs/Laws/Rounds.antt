@@ -7,9 +7,9 @@ use Rattle.std.proofs.Math.Path.{refl, sym, ap}
 use Rattle.std.proofs.Math.Dec.{eqb}
 use borrow.Author.Tests.{eqb-true, leb-true, ltb-true, not-true}
 use Rattle.scope.specs.Rule.{Task, passes_all, best, missed, missed_by, next}
-use Rattle.scope.specs.Laws.Tests.{clash, both}
-use Rattle.scope.specs.Laws.Picks.{Ahead}
-use Rattle.scope.specs.Laws.Rules.{best_iff, missed_iff}
+use Rattle.scope.proofs.Laws.Tests.{clash, both}
+use Rattle.scope.proofs.Laws.Picks.{Ahead}
+use Rattle.scope.proofs.Laws.Rules.{best_iff, missed_iff}
 use Rattle.words.specs.declared.Plan.{Plan}
 use Rattle.words.specs.declared.Pattern.{Pattern}
 use Rattle.circuit.specs.declared.rule.Missed.{Missed}

@@ -5,7 +5,7 @@ use Rattle.std.proofs.Common.{arith, add-one, sym, ap, ◌∙◌, length-set, ta
 use Rattle.std.proofs.Math.Option.{some}
 use Rattle.scope.specs.Rule.{Task, next, short, rule}
 use Rattle.scope.specs.Jobs.{over}
-use Rattle.scope.specs.Laws.Rules.{rule_stop, rule_full, rule_more}
+use Rattle.scope.proofs.Laws.Rules.{rule_stop, rule_full, rule_more}
 use Rattle.search.specs.declared.best.Best.{Best}
 use Rattle.search.specs.declared.best.Best.TheVariants.{Nothing}
 use Rattle.search.specs.declared.run.Step.TheVariants.{Done}

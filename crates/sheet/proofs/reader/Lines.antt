@@ -16,11 +16,11 @@ use Rattle.scope.specs.Causes.{literals, zeros, tests, started, length_ok, line_
 use Rattle.scope.specs.Sheets.{SheetRead}
 use Rattle.scope.specs.Reading.{when, joined, tests_of, add, line_at, column_at, tests_at, read}
 use Rattle.scope.specs.Words.{words_of}
-use Rattle.scope.specs.Laws.Scans.{before, Passed, size as wrong_size, line}
-use Rattle.scope.specs.Laws.Tests.{clash, both, up_to_lem}
-use Rattle.scope.specs.Laws.Refusals.{cause_refuses, line_within, column_of_lem, no_cause_accepts}
-use Rattle.scope.specs.Laws.Inverse.{read_iff}
-use Rattle.scope.specs.Laws.SheetReads.{sheet_iff}
+use Rattle.scope.proofs.Laws.Scans.{before, Passed, size as wrong_size, line}
+use Rattle.scope.proofs.Laws.Tests.{clash, both, up_to_lem}
+use Rattle.scope.proofs.Laws.Refusals.{cause_refuses, line_within, column_of_lem, no_cause_accepts}
+use Rattle.scope.proofs.Laws.Inverse.{read_iff}
+use Rattle.scope.proofs.Laws.SheetReads.{sheet_iff}
 use Rattle.words.specs.Entries.{counts_at, Within, Kept}
 use Rattle.words.specs.Tests.{Fault}
 use Rattle.words.specs.Told.{Fills}

@@ -9,8 +9,8 @@ use lib.ListN.{get_or}
 use borrow.Author.Tests.{leb-true}
 use Rattle.scope.specs.Sheet.{Number, plus, Clause, most_switches}
 use Rattle.scope.specs.Causes.{is, literal, zeros, literals, clause, at}
-use Rattle.scope.specs.Laws.Tests.{both}
-use Rattle.scope.specs.Laws.Steps.{is_plus}
+use Rattle.scope.proofs.Laws.Tests.{both}
+use Rattle.scope.proofs.Laws.Steps.{is_plus}
 use Rattle.scope.specs.Words.{literal_code, literal_at, wish_words}
 use Rattle.field.specs.Columns.{number_from}
 use Rattle.sheet.specs.Steps.{AreLiterals}

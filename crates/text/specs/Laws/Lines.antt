@@ -16,10 +16,10 @@ use Rattle.scope.specs.Text.{bytes}
 use Rattle.scope.specs.Typed.{Formula, Typed, typed, ors, most_nested, operators, point, gates_of, all_gates, all_points, known, rule_tests, wish_tests, line_tests, sheet_of}
 use Rattle.scope.specs.Texts.{FirstLine, here, later}
 use Rattle.scope.specs.Parsing.{line, first, head, nested, State, word, digits, switches, faults, rule_line, operand, after, add_rule, start, number_done, move, step}
-use Rattle.scope.specs.Laws.Tests.{clash}
-use Rattle.scope.specs.Laws.Alls.{all_append}
-use Rattle.scope.specs.Laws.Lists.{length_snoc}
-use Rattle.scope.specs.Laws.TypedSheets.{length_gates}
+use Rattle.scope.proofs.Laws.Tests.{clash}
+use Rattle.scope.proofs.Laws.Alls.{all_append}
+use Rattle.scope.proofs.Laws.Lists.{length_snoc}
+use Rattle.scope.proofs.Laws.TypedSheets.{length_gates}
 use Rattle.words.specs.Entries.{RulePut}
 use Rattle.words.specs.Tests.{test_of}
 use Rattle.words.specs.Tests as words

@@ -4,14 +4,14 @@ use Rattle.std.proofs.Common.{add-one, arith, ◌∙◌, drop_of_length-le, le-l
 use Rattle.std.proofs.lemmas.Bool.{eqb-false}
 use Rattle.scope.specs.Causes.{accepted, refused, started}
 use Rattle.scope.specs.Source.{Form}
-use Rattle.scope.specs.Claims.{text_read, form_source}
+use Rattle.scope.proofs.Claims.{text_read, form_source}
 use Rattle.scope.specs.Typed.{Typed, typed, most_text, all_gates, all_points, sheet_of}
 use Rattle.scope.specs.Texts.{TextRead, too_long, at_fault}
 use Rattle.scope.specs.Texts as texts
 use Rattle.scope.specs.Parsing.{rule_line, wish_line, start, move, step, at_end, walk, read_text}
 use Rattle.scope.specs.Words.{words_of}
-use Rattle.scope.specs.Laws.Completed.{walk_legal}
-use Rattle.scope.specs.Laws.Tests.{clash}
+use Rattle.scope.proofs.Laws.Completed.{walk_legal}
+use Rattle.scope.proofs.Laws.Tests.{clash}
 use Rattle.words.specs.Entries.{HeadPut}
 use Rattle.words.specs.Told.{Fills}
 use Rattle.words.specs.Laws.Sheets.{valid_within}

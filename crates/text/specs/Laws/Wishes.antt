@@ -20,8 +20,8 @@ use Rattle.scope.specs.Text.{bytes}
 use Rattle.scope.specs.Typed.{Formula, Typed, typed, most_text, wish_tests, line_tests, sheet_of}
 use Rattle.scope.specs.Parsing.{word, literal, start, wish_line, wish, ended, add_wish, number_done, move, step, at_end, walk}
 use Rattle.scope.specs.Words.{wish_words, literal_code}
-use Rattle.scope.specs.Laws.Tests.{clash, both}
-use Rattle.scope.specs.Laws.Lists.{length_snoc}
+use Rattle.scope.proofs.Laws.Tests.{clash, both}
+use Rattle.scope.proofs.Laws.Lists.{length_snoc}
 use Rattle.words.specs.Entries.{WishPut}
 use Rattle.words.specs.Tests as words
 use Rattle.scanner.specs.Look.{look, past}

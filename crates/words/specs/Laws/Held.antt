@@ -4,9 +4,9 @@ use Rattle.std.proofs.Common.{arith, sym, ap, ◌∙◌}
 use Rattle.scope.specs.Sheet.{Clause, Among, Valid, points}
 use Rattle.scope.specs.Sheet as scope
 use Rattle.scope.specs.Words.{gate_size, wish_size, gates_from, wishes_from, word, no_gate, gate_words, wish_words, gate_at, rule_at, wish_at, held, Used}
-use Rattle.scope.specs.Laws.Alls.{all_at}
-use Rattle.scope.specs.Laws.Entries.{length_entries, entry_at}
-use Rattle.scope.specs.Laws.Words.{gate_sized, wish_sized, gate_word, wish_word, words_kept}
+use Rattle.scope.proofs.Laws.Alls.{all_at}
+use Rattle.scope.proofs.Laws.Entries.{length_entries, entry_at}
+use Rattle.scope.proofs.Laws.Words.{gate_sized, wish_sized, gate_word, wish_word, words_kept}
 use Rattle.words.specs.Entries.{gate_from, clause_from, counts_at, gate_words_at, wish_words_at}
 
 three_words : (l : List ℕ) → length l ≡ 3 → {x y z : ℕ} → word l 0 ≡ x → word l 1 ≡ y → word l 2 ≡ z → l ≡ x ∷ y ∷ z ∷ []

@@ -10,8 +10,8 @@ use Rattle.scope.specs.Sheet.{Clause, Sheet, sheet, most_gates, most_rules, most
 use Rattle.scope.specs.Sheet as scope
 use Rattle.scope.specs.Causes.{add_gate, add_rule, add_wish}
 use Rattle.scope.specs.Words.{gate_size, wish_size, gates_from, rules_from, wishes_from, word, gate_words, rule_words, wish_words, room, words_of}
-use Rattle.scope.specs.Laws.Lists.{length_snoc}
-use Rattle.scope.specs.Laws.Words.{gate_sized, rule_sized, wish_sized, length_room}
+use Rattle.scope.proofs.Laws.Lists.{length_snoc}
+use Rattle.scope.proofs.Laws.Words.{gate_sized, rule_sized, wish_sized, length_room}
 use Rattle.words.specs.declared.gate.Gate.{Gate}
 use Rattle.words.specs.declared.wish.Wish.{Wish}
 use Rattle.words.specs.Entries.{Within, Kept, HeadPut, GatePut, RulePut, WishPut}

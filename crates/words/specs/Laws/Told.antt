@@ -4,7 +4,7 @@ use Rattle.std.proofs.Common.{sym, ap, ◌∙◌, ne_eqb}
 use Rattle.scope.specs.Sheet.{Sheet, Valid}
 use Rattle.scope.specs.Causes.{Read, accepted, refused}
 use Rattle.scope.specs.Words.{held, words_of}
-use Rattle.scope.specs.Laws.Words.{held_words}
+use Rattle.scope.proofs.Laws.Words.{held_words}
 use Rattle.words.specs.Told.{Fills}
 
 module _ (R : Read → Type 0) where

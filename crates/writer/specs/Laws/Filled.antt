@@ -4,7 +4,7 @@ use Rattle.std.proofs.Common.{arith, append_assoc, ap, ◌∙◌, eqb-true}
 use Rattle.std.proofs.Math.Path.{refl}
 use Rattle.scope.specs.Sheet.{Number, plus, filled}
 use Rattle.scope.specs.Words.{literal_from, clause_of}
-use Rattle.scope.specs.Laws.Lists.{length_snoc}
+use Rattle.scope.proofs.Laws.Lists.{length_snoc}
 
 module _ (n : ℕ) where
   pub zero_filled : (xs : List Number) → length xs < n → filled n (xs ++ plus 0 ∷ []) ≡ filled n xs

@@ -5,8 +5,8 @@ use Rattle.std.proofs.Math.Path.{ap}
 use Rattle.std.proofs.Math.ListN.{get_or}
 use Rattle.scope.specs.Sheet.{Sheet, H, Line, line, gate_line, rule_line, wish_line, end_line, body, sheet_lines}
 use Rattle.scope.specs.Words.{word, no_gate, held}
-use Rattle.scope.specs.Laws.Lists.{to_right}
-use Rattle.scope.specs.Laws.Writing.{length_lines}
+use Rattle.scope.proofs.Laws.Lists.{to_right}
+use Rattle.scope.proofs.Laws.Writing.{length_lines}
 use Rattle.words.specs.Laws.Held.{held_gates, held_rules, held_wishes, held_gate, held_rule, held_wish}
 use Rattle.writer.specs.Entries.{LineOf}
 use Rattle.writer.specs.Rows.{Stands, Is, line_of, line_at}

@@ -8,8 +8,8 @@ use Rattle.scope.specs.Texts.{FirstLine}
 use Rattle.scope.specs.Texts as texts
 use Rattle.scope.specs.Words.{held}
 use Rattle.scope.specs.Writing.{table_tests, TablesRead, at_fault, accepted}
-use Rattle.scope.specs.Laws.Alls.{all_snoc}
-use Rattle.scope.specs.Laws.Writing.{wishes_held, passes_valid}
+use Rattle.scope.proofs.Laws.Alls.{all_snoc}
+use Rattle.scope.proofs.Laws.Writing.{wishes_held, passes_valid}
 use Rattle.words.specs.Told.{told}
 use Rattle.words.specs.Tests.{test_of, Fault}
 use Rattle.writer.specs.Entries.{before_end}

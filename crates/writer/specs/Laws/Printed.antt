@@ -9,13 +9,13 @@ use Rattle.scope.specs.Jobs.{over}
 use Rattle.scope.specs.Words.{held}
 use Rattle.scope.specs.Writing.{TablesRead, written, IsWritten}
 use Rattle.scope.specs.Writing as writing
-use Rattle.scope.specs.Laws.Lists.{length_snoc}
-use Rattle.scope.specs.Laws.Lines.{Fit}
-use Rattle.scope.specs.Laws.Alls.{all_take, all_at}
-use Rattle.scope.specs.Laws.Inverse.{Good, length_text, text_snoc, good_lines, few_body}
-use Rattle.scope.specs.Laws.Writing.{length_lines, sheet_size}
-use Rattle.scope.specs.Laws.Refusals.{not_both}
-use Rattle.scope.specs.Laws.TableReads.{written_in, left_out}
+use Rattle.scope.proofs.Laws.Lists.{length_snoc}
+use Rattle.scope.proofs.Laws.Lines.{Fit}
+use Rattle.scope.proofs.Laws.Alls.{all_take, all_at}
+use Rattle.scope.proofs.Laws.Inverse.{Good, length_text, text_snoc, good_lines, few_body}
+use Rattle.scope.proofs.Laws.Writing.{length_lines, sheet_size}
+use Rattle.scope.proofs.Laws.Refusals.{not_both}
+use Rattle.scope.proofs.Laws.TableReads.{written_in, left_out}
 use Rattle.words.specs.Told.{told}
 use Rattle.words.specs.declared.refusal.Cause.{Cause}
 use Rattle.line.specs.Lines.{numbers_from}

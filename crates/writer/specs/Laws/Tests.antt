@@ -13,9 +13,9 @@ use Rattle.scope.specs.Sheet.{Gate, not, and, or, Sheet, points, H, Line, line, 
 use Rattle.scope.specs.Causes.{clause, tests, started, add_gate, make}
 use Rattle.scope.specs.Words.{wish_size, wishes_from, word, gate_at, rule_at, wish_at, held}
 use Rattle.scope.specs.Writing.{tests_from, table_tests}
-use Rattle.scope.specs.Laws.Lists.{length_snoc}
-use Rattle.scope.specs.Laws.Inverse.{zeros_replicate}
-use Rattle.scope.specs.Laws.Writing.{length_lines, gate_made}
+use Rattle.scope.proofs.Laws.Lists.{length_snoc}
+use Rattle.scope.proofs.Laws.Inverse.{zeros_replicate}
+use Rattle.scope.proofs.Laws.Writing.{length_lines, gate_made}
 use Rattle.words.specs.Tests.{Fault}
 use Rattle.writer.specs.Entries.{before_end, LineOf}
 use Rattle.writer.specs.Tested.{named, tests_of, line_tests}

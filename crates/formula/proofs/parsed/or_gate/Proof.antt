@@ -1,6 +1,6 @@
 -- `parsed::or_gate` meets its contract: the first operand is handed on as it is, and each later one is joined to those before it.
 use mathlib.Core.Path.{refl}
-use Rattle.scope.specs.Laws.Tests.{clash}
+use Rattle.scope.proofs.Laws.Tests.{clash}
 use borrow.Author.Rules.{rules}
 use Rattle.formula.proofs.parsed.or_gate.Statement.{statement}
 use Rattle.formula.proofs.parsed.or_gate.Tie as tie

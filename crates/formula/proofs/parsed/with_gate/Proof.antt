@@ -1,6 +1,6 @@
 -- `parsed::with_gate` meets its contract: a bad formula stays as it is, and after any other the gate is put and counted.
 use mathlib.Core.Path.{refl}
-use Rattle.scope.specs.Laws.Tests.{clash}
+use Rattle.scope.proofs.Laws.Tests.{clash}
 use borrow.Author.Rules.{rules}
 use Rattle.formula.proofs.parsed.with_gate.Statement.{statement}
 use Rattle.formula.proofs.parsed.with_gate.Tie as tie

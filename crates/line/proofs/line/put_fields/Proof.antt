@@ -8,7 +8,7 @@ use lib.Seq.{take_all}
 use borrow.Author.Rules.{rules}
 use mathlib.Core.Bool.{true}
 use Rattle.scope.specs.Sheet.{plus, fits}
-use Rattle.scope.specs.Laws.Alls.{all_at}
+use Rattle.scope.proofs.Laws.Alls.{all_at}
 use Rattle.line.specs.Lines.{numbers_from}
 use Rattle.line.specs.Laws.Numbers.{length_numbers}
 use Rattle.field.specs.Put.{put, put_nothing}

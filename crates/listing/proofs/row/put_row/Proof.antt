@@ -2,7 +2,7 @@
 -- letter, so it is asked for a row with any.
 use native.Mathlib.Omega.{arith}
 use borrow.Author.Rules.{rules}
-use Rattle.scope.specs.Laws.Outputs.{row_fits}
+use Rattle.scope.proofs.Laws.Outputs.{row_fits}
 use Rattle.listing.specs.Laws.Rows.{row_numbers}
 use Rattle.listing.proofs.row.put_row.Statement.{statement}
 use Rattle.listing.proofs.row.put_row.Tie as tie

@@ -7,7 +7,7 @@ use lib.ListN.{length}
 use borrow.Author.Rules.{rules}
 use Rattle.scope.specs.Meaning.{bits}
 use Rattle.scope.specs.Program.{row, switch_row}
-use Rattle.scope.specs.Laws.Points.{length_bits}
+use Rattle.scope.proofs.Laws.Points.{length_bits}
 use Rattle.listing.specs.Rows.{Put}
 use Rattle.listing.specs.Laws.Rows.{row_size_lem, put_none, put_one_more}
 use Rattle.listing.proofs.rows.put_switches.Statement.{statement}

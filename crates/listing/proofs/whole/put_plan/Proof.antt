@@ -8,7 +8,7 @@ use borrow.Author.Rules.{rules}
 use Rattle.scope.specs.Meaning.{bits}
 use Rattle.scope.specs.Words.{held}
 use Rattle.scope.specs.Program.{each, switch_row, wish_row}
-use Rattle.scope.specs.Laws.Points.{length_bits}
+use Rattle.scope.proofs.Laws.Points.{length_bits}
 use Rattle.words.specs.Laws.Held.{held_wishes}
 use Rattle.listing.specs.Rows.{row_size}
 use Rattle.listing.specs.Laws.Rows.{wrote_none, put_all, wrote_more}

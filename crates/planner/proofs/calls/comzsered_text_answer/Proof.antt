@@ -1,7 +1,7 @@
 -- `calls::comzsered_text_answer` meets its contract: the figures handed out are those of `texts::answer`.
 -- Assumes nothing.
 use mathlib.Core.Path.{ap}
-use Rattle.scope.specs.Laws.Given.{given_as}
+use Rattle.scope.proofs.Laws.Given.{given_as}
 use Rattle.scope.specs.Jobs.{answered}
 use borrow.Author.Rules.{rules}
 use Rattle.planner.proofs.calls.comzsered_text_answer.Statement.{statement}

@@ -1,7 +1,7 @@
 -- `calls::comzsered_text_rating` meets its contract: the figures handed out are those of `texts::rate`.
 -- Assumes nothing.
 use mathlib.Core.Path.{sym}
-use Rattle.scope.specs.Laws.Given.{given_as, given_map}
+use Rattle.scope.proofs.Laws.Given.{given_as, given_map}
 use Rattle.jobs.specs.Figures.{rating_figures}
 use borrow.Author.Rules.{rules}
 use Rattle.planner.proofs.calls.comzsered_text_rating.Statement.{statement}

@@ -1,6 +1,6 @@
 -- `calls::comzsered_text_short_run` meets its contract: the figures handed out are those of `texts::short_run`.
 -- Assumes nothing.
-use Rattle.scope.specs.Laws.Given.{given_as}
+use Rattle.scope.proofs.Laws.Given.{given_as}
 use borrow.Author.Rules.{rules}
 use Rattle.planner.proofs.calls.comzsered_text_short_run.Statement.{statement}
 use Rattle.planner.proofs.calls.comzsered_text_short_run.Tie as tie

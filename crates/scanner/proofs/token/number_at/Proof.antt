@@ -2,7 +2,7 @@
 use mathlib.Core.Path.{refl, sym, ◌∙◌}
 use native.Mathlib.Omega.{arith}
 use borrow.Author.Tests.{not-true, not-false}
-use Rattle.scope.specs.Laws.Reached.{digit_byte}
+use Rattle.scope.proofs.Laws.Reached.{digit_byte}
 use Rattle.scanner.specs.Laws.Tokens.{number_zero, number_no_zero, number_none, number_one, number_two}
 use borrow.Author.Rules.{rules}
 use Rattle.scanner.proofs.token.number_at.Statement.{statement}

@@ -11,7 +11,7 @@ use borrow.Author.Count.{below_more}
 use Rattle.scope.specs.Words.{held}
 use Rattle.scope.specs.Meaning.{passes}
 use Rattle.scope.specs.Jobs.{task}
-use Rattle.scope.specs.Laws.Rules.{passes_all_lem}
+use Rattle.scope.proofs.Laws.Rules.{passes_all_lem}
 use Rattle.search.specs.Laws.Plans.{passes_not}
 use Rattle.search.proofs.best.passes_all.Statement.{statement}
 use Rattle.search.proofs.best.passes_all.Tie as tie

@@ -3,7 +3,7 @@
 -- what they say.
 use Prim.Native.Nat.{◌-◌}
 use native.Mathlib.Omega.{arith}
-use Rattle.scope.specs.Laws.Scans.{before}
+use Rattle.scope.proofs.Laws.Scans.{before}
 use Rattle.sheet.proofs.reader.Lines.{Reached, begun, line-fits, few, suited, reached-next, turned_down, taken_in}
 use borrow.Author.Rules.{rules}
 use Rattle.sheet.proofs.reader.read_lines.Statement.{statement}

@@ -1,6 +1,6 @@
 -- `rule::rule_lines` meets its contract: the loop's invariant is that the lines so far are read; a further line begins with the letter of a rule and ends at a later place, so less of the text is left.
 use mathlib.Core.Path.{sym, ◌∙◌}
-use Rattle.scope.specs.Laws.Tests.{clash}
+use Rattle.scope.proofs.Laws.Tests.{clash}
 use Rattle.text.specs.Lines.{lines_left, RulesRead}
 use Rattle.text.specs.Laws.Lines.{goes_on_is, no_more, lines_less}
 use borrow.Author.Rules.{rules}

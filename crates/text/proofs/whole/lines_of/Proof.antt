@@ -1,6 +1,6 @@
 -- `whole::lines_of` meets its contract: where the head or a line is bad, so is the text; else its parts follow each other, and after the wishes the text ends or is stuck.
 use mathlib.Core.Path.{refl}
-use Rattle.scope.specs.Laws.Tests.{clash}
+use Rattle.scope.proofs.Laws.Tests.{clash}
 use Rattle.text.specs.Laws.Texts.{rules_begin, wishes_begin, text_ends}
 use borrow.Author.Rules.{rules}
 use Rattle.text.proofs.whole.lines_of.Statement.{statement}

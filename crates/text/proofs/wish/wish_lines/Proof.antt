@@ -1,6 +1,6 @@
 -- `wish::wish_lines` meets its contract: the loop's invariant is that the lines so far are read; a further line begins with the letter of a wish and ends at a later place, so less of the text is left.
 use mathlib.Core.Path.{sym, ◌∙◌}
-use Rattle.scope.specs.Laws.Tests.{clash}
+use Rattle.scope.proofs.Laws.Tests.{clash}
 use Rattle.text.specs.Lines.{lines_left}
 use Rattle.text.specs.Wishes.{WishesRead}
 use Rattle.text.specs.Laws.Lines.{goes_on_is, no_more, lines_less}

@@ -12,9 +12,9 @@ use Rattle.scope.specs.Sheet.{Number, number, Clause, digit, decimal, All, Among
 use Rattle.scope.specs.Reading.{when}
 use Rattle.scope.specs.Typed.{Formula, Typed, typed, Gap, Level, ors, ands, factor, Written, RuleLines, Writable, Legal, most_nested, most_number, numeral, literal_bytes, literals_bytes, wish_lines}
 use Rattle.scope.specs.Parsing.{Around, nested, Slot, State, feed, add_rule, add_wish, operand_done, number_done, joined_or, outside, closed, fed, is_digit, digit_of, zero_ok, Arm, on, nested_more, operand_arms, sign_arms, move, step, start}
-use Rattle.scope.specs.Laws.Tests.{clash, both}
-use Rattle.scope.specs.Laws.Lists.{length_snoc, to_right}
-use Rattle.scope.specs.Laws.Alls.{all_snoc}
+use Rattle.scope.proofs.Laws.Tests.{clash, both}
+use Rattle.scope.proofs.Laws.Lists.{length_snoc, to_right}
+use Rattle.scope.proofs.Laws.Alls.{all_snoc}
 
 -- ---- a text so far, and what is put behind it
 

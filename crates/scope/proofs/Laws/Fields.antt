@@ -9,8 +9,8 @@ use Rattle.std.proofs.Math.Dec.{ltb}
 use Rattle.std.proofs.lemmas.List.{length-replicate}
 use Rattle.scope.specs.Sheet.{Number, number, field_size, digit, decimal, signed, justified, field, fits}
 use Rattle.scope.specs.Reading.{same, size_from, has_minus, guess, when, compared, field_of}
-use Rattle.scope.specs.Laws.Tests.{clash, both}
-use Rattle.scope.specs.Laws.Lists.{length_snoc}
+use Rattle.scope.proofs.Laws.Tests.{clash, both}
+use Rattle.scope.proofs.Laws.Lists.{length_snoc}
 
 -- ---- bytes compared
 

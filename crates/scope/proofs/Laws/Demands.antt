@@ -13,10 +13,10 @@ use Rattle.scope.specs.Rule.{Verdict, plan, no_plan, no_room, Run, run, verdict_
 use Rattle.scope.specs.Jobs.{task, Result, refusal, found, result, Answer, answered, over, answer_of, first_high, short_of, rated, rating_of}
 use Rattle.scope.specs.Demands.{Sound, Passes, Best, list, Ending, Demand1, Demand2, SameVerdict, Differ, listed, Misses, Pair, Demand3, ShortRun, Rates}
 use Rattle.scope.specs.Demands as claimed
-use Rattle.scope.specs.Laws.Tests.{clash}
-use Rattle.scope.specs.Laws.Refusals.{figures_within}
-use Rattle.scope.specs.Laws.SheetReads.{refusal_number}
-use Rattle.scope.specs.Laws.Rules.{passes_at, passes_all_lem, Candidate, best_iff, Missed, missed_iff, Ruled, ruled_take, settled, words_apart, words_below, length_patterns, length_plans, room, little_room, verdict_short, Right, verdict_right, verdict_iff, Answers, Beginning, beginning}
+use Rattle.scope.proofs.Laws.Tests.{clash}
+use Rattle.scope.proofs.Laws.Refusals.{figures_within}
+use Rattle.scope.proofs.Laws.SheetReads.{refusal_number}
+use Rattle.scope.proofs.Laws.Rules.{passes_at, passes_all_lem, Candidate, best_iff, Missed, missed_iff, Ruled, ruled_take, settled, words_apart, words_below, length_patterns, length_plans, room, little_room, verdict_short, Right, verdict_right, verdict_iff, Answers, Beginning, beginning}
 
 -- ---- results tell verdicts apart
 

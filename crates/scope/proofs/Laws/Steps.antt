@@ -8,10 +8,10 @@ use Rattle.std.proofs.lemmas.List.{replicate-append-replicate}
 use Rattle.std.proofs.lemmas.Bool.{not-true}
 use Rattle.scope.specs.Sheet.{Number, number, plus, Clause, Gate, Sheet, points, Letter, H, N, A, O, R, W, Z, Line, line, filled, head_line, gate_line, rule_line, wish_line, end_line, body, most_switches, most_faults, most_gates, most_rules, most_wishes, most_literals, All, Among, Names, Wish, Valid}
 use Rattle.scope.specs.Causes.{is, up_to, point, literal, zeros, literals, clause, at, empty, tests, started, add_gate, add_rule, add_wish, make, Met}
-use Rattle.scope.specs.Laws.Tests.{clash, both}
-use Rattle.scope.specs.Laws.Lists.{length_snoc}
-use Rattle.scope.specs.Laws.Alls.{all_snoc}
-use Rattle.scope.specs.Laws.Gates.{ordered_snoc}
+use Rattle.scope.proofs.Laws.Tests.{clash, both}
+use Rattle.scope.proofs.Laws.Lists.{length_snoc}
+use Rattle.scope.proofs.Laws.Alls.{all_snoc}
+use Rattle.scope.proofs.Laws.Gates.{ordered_snoc}
 
 -- ---- tests and what they say
 

@@ -5,11 +5,11 @@ use Rattle.scope.specs.Sheet.{Sheet, field_count, Valid}
 use Rattle.scope.specs.Causes.{Read, accepted}
 use Rattle.scope.specs.Source.{Source, Gives, Form, sheet, text, ReadFrom}
 use Rattle.scope.specs.Words.{held, words_of}
-use Rattle.scope.specs.Laws.Sources.{sheet_source}
-use Rattle.scope.specs.Laws.SheetReads.{sheet_iff}
-use Rattle.scope.specs.Laws.TextReads.{text_iff}
-use Rattle.scope.specs.Laws.TypedSheets.{reads_source}
-use Rattle.scope.specs.Laws.Words.{held_words}
+use Rattle.scope.proofs.Laws.Sources.{sheet_source}
+use Rattle.scope.proofs.Laws.SheetReads.{sheet_iff}
+use Rattle.scope.proofs.Laws.TextReads.{text_iff}
+use Rattle.scope.proofs.Laws.TypedSheets.{reads_source}
+use Rattle.scope.proofs.Laws.Words.{held_words}
 
 pub read_once : (x : Form) (r q : Read) → ReadFrom x r → ReadFrom x q → r ≡ q
 read_once (sheet s) r q h i = sym ((sheet_iff field_count (omega arith) s r).1 h) ∙ (sheet_iff field_count (omega arith) s q).1 i

@@ -11,8 +11,8 @@ use Rattle.scope.specs.Words.{held, words_of}
 use Rattle.scope.specs.Filling.{read_into}
 use Rattle.scope.specs.Writing.{written, IsWritten}
 use Rattle.scope.specs.Writing as writing
-use Rattle.scope.specs.Laws.TableReads.{written_in}
-use Rattle.scope.specs.Laws.Forms.{form_source}
+use Rattle.scope.proofs.Laws.TableReads.{written_in}
+use Rattle.scope.proofs.Laws.Forms.{form_source}
 
 pub refused_kept : (r : Read) (lent : List ℕ) → (read_into r lent).number ≢ 0 → (read_into r lent).tables ≡ lent
 refused_kept (accepted t) lent h = absurd (h refl)

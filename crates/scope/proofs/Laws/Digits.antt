@@ -8,8 +8,8 @@ use Rattle.std.proofs.Math.ListN.{length}
 use Rattle.std.proofs.lemmas.List.{length-replicate}
 use Rattle.std.proofs.Math.Seq.{append_snoc}
 use Rattle.scope.specs.Sheet.{Number, number, field_size, digit, decimal, signed, justified, field, fits}
-use Rattle.scope.specs.Laws.Lists.{length_snoc, begins_snoc}
-use Rattle.scope.specs.Laws.Fields.{by_digits, Fitting, fitting}
+use Rattle.scope.proofs.Laws.Lists.{length_snoc, begins_snoc}
+use Rattle.scope.proofs.Laws.Fields.{by_digits, Fitting, fitting}
 
 abbrev pub spaces : ℕ → List ℕ
 spaces k = replicate k (code " ")

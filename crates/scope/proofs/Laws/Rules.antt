@@ -12,9 +12,9 @@ use Rattle.std.proofs.lemmas.List.{take-append-le}
 use borrow.Author.Tests.{not-true, not-false}
 use Rattle.scope.specs.Pick.{Better}
 use Rattle.scope.specs.Rule.{Task, Verdict, plan, no_plan, no_room, run, verdict_of, passes_all, best, missed, short, missed_by, next, rule, whole}
-use Rattle.scope.specs.Laws.Tests.{clash, both, up_to_lem}
-use Rattle.scope.specs.Laws.Picks.{Ahead, ahead_antisym, better, Picked, pick_iff}
-use Rattle.scope.specs.Laws.Pigeon.{pigeon}
+use Rattle.scope.proofs.Laws.Tests.{clash, both, up_to_lem}
+use Rattle.scope.proofs.Laws.Picks.{Ahead, ahead_antisym, better, Picked, pick_iff}
+use Rattle.scope.proofs.Laws.Pigeon.{pigeon}
 
 abbrev plan_of : Option ℕ → ℕ
 plan_of none = 0

@@ -7,7 +7,7 @@ use Rattle.scope.specs.Sheet.{Number, field_size, field, fits, Letter, H, N, A, 
 use Rattle.scope.specs.Causes.{line_size}
 use Rattle.scope.specs.Sheets.{Printed}
 use Rattle.scope.specs.Reading.{same, field_of, also, fields_of, letter_from, letter_of, joined, line_of}
-use Rattle.scope.specs.Laws.Fields.{same_true, length_field, when_some, field_iff}
+use Rattle.scope.proofs.Laws.Fields.{same_true, length_field, when_some, field_iff}
 
 -- ---- fields
 

@@ -15,9 +15,9 @@ use Rattle.std.proofs.Math.Seq.{get_or-append-add}
 use borrow.Author.Tests.{eqb-true, eqb-false, eq-eqb, ne_eqb, ltb-true, ltb-false, leb-true, leb-false}
 use Rattle.scope.specs.Sheet.{Number, number, Clause, Gate, Sheet, points, most_gates, most_rules, most_wishes, Names, Wish, Valid}
 use Rattle.scope.specs.Words.{gate_size, wish_size, gates_from, rules_from, wishes_from, word_count, word, gate_words, no_gate, gate_of, rule_words, literal_code, literal_at, wish_words, literal_from, clause_of, entries, gate_at, rule_at, wish_at, held, flat, room, words_of, Used, count, gate, rule, wish}
-use Rattle.scope.specs.Laws.Alls.{all_at}
-use Rattle.scope.specs.Laws.Gates.{ordered_names}
-use Rattle.scope.specs.Laws.Entries.{length_entries, entry_at}
+use Rattle.scope.proofs.Laws.Alls.{all_at}
+use Rattle.scope.proofs.Laws.Gates.{ordered_names}
+use Rattle.scope.proofs.Laws.Entries.{length_entries, entry_at}
 
 -- ---- a literal: 2k as k, 2k + 1 as -k, and back
 

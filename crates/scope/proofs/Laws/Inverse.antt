@@ -16,14 +16,14 @@ use Rattle.scope.specs.Sheet.{Number, plus, Clause, Gate, Sheet, sheet, points, 
 use Rattle.scope.specs.Causes.{is, point, zeros, literals, clause, at, tests, started, add_wish, make, accepted, line_size, most_bytes, length_ok, line_count, bytes_at, Met}
 use Rattle.scope.specs.Sheets.{Printed}
 use Rattle.scope.specs.Reading.{tests_of, add, line_of, line_at, tests_at, read_from, read}
-use Rattle.scope.specs.Laws.Scans.{before, Passed}
-use Rattle.scope.specs.Laws.Tests.{clash, both}
-use Rattle.scope.specs.Laws.Lists.{length_snoc, shorter, to_right}
-use Rattle.scope.specs.Laws.Alls.{all_imply, all_append, all_middle, all_replicate, all_map}
-use Rattle.scope.specs.Laws.Gates.{ordered_at, ordered_names}
-use Rattle.scope.specs.Laws.Lines.{Fit, line_iff, length_line}
-use Rattle.scope.specs.Laws.Refusals.{met_none, accepted_iff}
-use Rattle.scope.specs.Laws.Steps.{Step, more, done, step, Head, head_step}
+use Rattle.scope.proofs.Laws.Scans.{before, Passed}
+use Rattle.scope.proofs.Laws.Tests.{clash, both}
+use Rattle.scope.proofs.Laws.Lists.{length_snoc, shorter, to_right}
+use Rattle.scope.proofs.Laws.Alls.{all_imply, all_append, all_middle, all_replicate, all_map}
+use Rattle.scope.proofs.Laws.Gates.{ordered_at, ordered_names}
+use Rattle.scope.proofs.Laws.Lines.{Fit, line_iff, length_line}
+use Rattle.scope.proofs.Laws.Refusals.{met_none, accepted_iff}
+use Rattle.scope.proofs.Laws.Steps.{Step, more, done, step, Head, head_step}
 
 text_append : (r s : List Line) → text (r ++ s) ≡ text r ++ text s
 unfolding text

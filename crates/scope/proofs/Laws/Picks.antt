@@ -6,7 +6,7 @@ use Rattle.std.specs.Prelude.{Bool, true, false, cond, ◌⊎◌, ◌≢◌, ◌
 use Rattle.std.proofs.Math.Option.{Option, none, some}
 use Rattle.std.proofs.Math.Path.{refl}
 use Rattle.scope.specs.Pick.{Better, keep, pick}
-use Rattle.scope.specs.Laws.Tests.{clash, up_to_lem}
+use Rattle.scope.proofs.Laws.Tests.{clash, up_to_lem}
 
 -- a comes no later than b: it costs no more, and at equal cost its number is no larger
 pub record Ahead (cost : ℕ → ℕ) (a b : ℕ) : Type 0 where

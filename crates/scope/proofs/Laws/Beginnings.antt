@@ -16,13 +16,13 @@ use Rattle.scope.specs.Sheet.{Number, field_size, digit, decimal, field, fits, L
 use Rattle.scope.specs.Causes.{line_size}
 use Rattle.scope.specs.Sheets.{Printed, Begins, Stops}
 use Rattle.scope.specs.Reading.{field_of, also, fields_of, letter_of, joined, line_of, full, model, formed, begins, column_of}
-use Rattle.scope.specs.Laws.Scans.{Column, stopped, well_formed}
-use Rattle.scope.specs.Laws.Tests.{clash}
-use Rattle.scope.specs.Laws.Alls.{all_replicate}
-use Rattle.scope.specs.Laws.Fields.{length_field, field_iff}
-use Rattle.scope.specs.Laws.Digits.{Part, ones, filled, field_part}
-use Rattle.scope.specs.Laws.Lines.{Fit, fields_iff, letter_iff, line_iff, length_line}
-use Rattle.scope.specs.Laws.Picks.{Best, pick_iff}
+use Rattle.scope.proofs.Laws.Scans.{Column, stopped, well_formed}
+use Rattle.scope.proofs.Laws.Tests.{clash}
+use Rattle.scope.proofs.Laws.Alls.{all_replicate}
+use Rattle.scope.proofs.Laws.Fields.{length_field, field_iff}
+use Rattle.scope.proofs.Laws.Digits.{Part, ones, filled, field_part}
+use Rattle.scope.proofs.Laws.Lines.{Fit, fields_iff, letter_iff, line_iff, length_line}
+use Rattle.scope.proofs.Laws.Picks.{Best, pick_iff}
 
 -- ---- options
 

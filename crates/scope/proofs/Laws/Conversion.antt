@@ -6,10 +6,10 @@ use Rattle.scope.specs.Sheet.{Sheet, fields_bytes, field_count, sheet_bytes, All
 use Rattle.scope.specs.Causes.{Read, accepted, refused, line_size, most_bytes}
 use Rattle.scope.specs.Source.{Source}
 use Rattle.scope.specs.Program.{Row, rows_bytes, each, output_fields, output_rows, output, converted, converted_of}
-use Rattle.scope.specs.Laws.Lines.{length_fields}
-use Rattle.scope.specs.Laws.Inverse.{few_body}
-use Rattle.scope.specs.Laws.Writing.{sheet_size}
-use Rattle.scope.specs.Laws.Outputs.{Fits, output_fits}
+use Rattle.scope.proofs.Laws.Lines.{length_fields}
+use Rattle.scope.proofs.Laws.Inverse.{few_body}
+use Rattle.scope.proofs.Laws.Writing.{sheet_size}
+use Rattle.scope.proofs.Laws.Outputs.{Fits, output_fits}
 
 -- rows of figures that fit have a line's length each
 length_rows : (rs : List Row) → All Fits rs → All (λ r. length r.fields ≡ output_fields) rs → length (rows_bytes rs) ≡ length rs * line_size output_fields

@@ -9,11 +9,11 @@ use Rattle.scope.specs.Sheet.{Number, Sheet, Letter, H, N, A, O, R, W, Z, Line, 
 use Rattle.scope.specs.Causes.{up_to, at, zeros, Test, tests, started, accepted, refused, line_size, length_ok, line_count, bytes_at, Met, First, here, later}
 use Rattle.scope.specs.Sheets.{SheetRefusal, wrong_length, malformed, wrong_letter, out_of_range, too_many, wrong_field, wrong_count}
 use Rattle.scope.specs.Reading.{first_fault, tests_of, line_of, line_at, column_at, tests_at, read_from, read}
-use Rattle.scope.specs.Laws.Scans.{Column, stopped, well_formed, before, Passed, Cause, size, line, NoCause}
-use Rattle.scope.specs.Laws.Tests.{both, up_to_lem}
-use Rattle.scope.specs.Laws.Lists.{part_length}
-use Rattle.scope.specs.Laws.Lines.{line_iff}
-use Rattle.scope.specs.Laws.Beginnings.{stops_within, column_is, column_found}
+use Rattle.scope.proofs.Laws.Scans.{Column, stopped, well_formed, before, Passed, Cause, size, line, NoCause}
+use Rattle.scope.proofs.Laws.Tests.{both, up_to_lem}
+use Rattle.scope.proofs.Laws.Lists.{part_length}
+use Rattle.scope.proofs.Laws.Lines.{line_iff}
+use Rattle.scope.proofs.Laws.Beginnings.{stops_within, column_is, column_found}
 
 -- ---- the first unmet test
 

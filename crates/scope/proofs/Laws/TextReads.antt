@@ -13,9 +13,9 @@ use Rattle.scope.specs.Typed.{Typed, Legal, most_text, line_tests, sheet_of}
 use Rattle.scope.specs.Texts.{Starts, Shared, FirstLine, here, later, TextRead, too_long, not_legal, at_fault}
 use Rattle.scope.specs.Texts as texts
 use Rattle.scope.specs.Parsing.{Outcome, legal, stuck, walk, start, first_line, text_of, read_text}
-use Rattle.scope.specs.Laws.Refusals.{met, met_none, first, first_some}
-use Rattle.scope.specs.Laws.Completed.{walk_legal, walk_stuck}
-use Rattle.scope.specs.Laws.Walked.{legal_walks, stuck_front, starts_walk}
+use Rattle.scope.proofs.Laws.Refusals.{met, met_none, first, first_some}
+use Rattle.scope.proofs.Laws.Completed.{walk_legal, walk_stuck}
+use Rattle.scope.proofs.Laws.Walked.{legal_walks, stuck_front, starts_walk}
 
 -- ---- the first line at fault
 

@@ -16,11 +16,11 @@ use Rattle.scope.specs.Words.{held}
 use Rattle.scope.specs.Writing.{tests_from, table_tests, TablesRead, at_fault, TablesRefusal, out_of_range, too_many, wrong_field, WriteResult, written, written_of}
 use Rattle.scope.specs.Writing as writing
 use Rattle.scope.specs.Checking.{read_tables}
-use Rattle.scope.specs.Laws.Tests.{clash}
-use Rattle.scope.specs.Laws.Alls.{all_true, all_map}
-use Rattle.scope.specs.Laws.Refusals.{not_both, first_in}
-use Rattle.scope.specs.Laws.TextReads.{lines_met, line_refused, by_lines}
-use Rattle.scope.specs.Laws.Writing.{wishes_held, valid_passes, passes_valid}
+use Rattle.scope.proofs.Laws.Tests.{clash}
+use Rattle.scope.proofs.Laws.Alls.{all_true, all_map}
+use Rattle.scope.proofs.Laws.Refusals.{not_both, first_in}
+use Rattle.scope.proofs.Laws.TextReads.{lines_met, line_refused, by_lines}
+use Rattle.scope.proofs.Laws.Writing.{wishes_held, valid_passes, passes_valid}
 
 -- ---- reading
 

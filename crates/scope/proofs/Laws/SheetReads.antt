@@ -9,12 +9,12 @@ use Rattle.scope.specs.Causes.{Met, First, here, make, Read, accepted, refused, 
 use Rattle.scope.specs.Sheets.{Printed, Stops, Said, SheetRead, SheetRefusal}
 use Rattle.scope.specs.Sheets as sheets
 use Rattle.scope.specs.Reading.{line_of, tests_of, add, line_at, tests_at, read}
-use Rattle.scope.specs.Laws.Tests.{clash, up_to_lem}
-use Rattle.scope.specs.Laws.Lines.{line_iff}
-use Rattle.scope.specs.Laws.Scans.{Column, stopped, well_formed, before, Passed, Cause, size, line}
-use Rattle.scope.specs.Laws.Beginnings.{stops_within, column_is}
-use Rattle.scope.specs.Laws.Refusals.{refused_iff, cause_refuses, cause_number}
-use Rattle.scope.specs.Laws.Inverse.{read_iff}
+use Rattle.scope.proofs.Laws.Tests.{clash, up_to_lem}
+use Rattle.scope.proofs.Laws.Lines.{line_iff}
+use Rattle.scope.proofs.Laws.Scans.{Column, stopped, well_formed, before, Passed, Cause, size, line}
+use Rattle.scope.proofs.Laws.Beginnings.{stops_within, column_is}
+use Rattle.scope.proofs.Laws.Refusals.{refused_iff, cause_refuses, cause_number}
+use Rattle.scope.proofs.Laws.Inverse.{read_iff}
 
 module _ (n : ℕ) (s : List ℕ) where
   -- a line that is printed is the one that is computed

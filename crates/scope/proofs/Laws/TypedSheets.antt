@@ -14,10 +14,10 @@ use Rattle.scope.specs.Source.{Refusal, Source}
 use Rattle.scope.specs.Meaning.{all}
 use Rattle.scope.specs.Typed.{Formula, Typed, Level, Written, RuleLines, Writable, Legal, most_text, most_number, wish_lines, operators, point, gates_of, all_gates, all_points, known, rule_tests, wish_tests, line_tests, sheet_of}
 use Rattle.scope.specs.Texts.{FirstLine, TextRead, too_long, not_legal, at_fault, accepted, TextRefusal, overlong, illegal, switches_out_of_range, faults_out_of_range, too_many, not_on_sheet}
-use Rattle.scope.specs.Laws.Tests.{both}
-use Rattle.scope.specs.Laws.Alls.{all_append, all_parts}
-use Rattle.scope.specs.Laws.Gates.{ordered_append}
-use Rattle.scope.specs.Laws.Refusals.{first_in}
+use Rattle.scope.proofs.Laws.Tests.{both}
+use Rattle.scope.proofs.Laws.Alls.{all_append, all_parts}
+use Rattle.scope.proofs.Laws.Gates.{ordered_append}
+use Rattle.scope.proofs.Laws.Refusals.{first_in}
 
 -- ---- rules, with a switches and f faults
 module _ (a f : ℕ) where

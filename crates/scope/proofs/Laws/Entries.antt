@@ -8,9 +8,9 @@ use Rattle.std.proofs.Math.ListN.{get_or-append}
 use Rattle.std.proofs.lemmas.List.{get_or_at}
 use Rattle.scope.specs.Sheet.{All}
 use Rattle.scope.specs.Words.{entries}
-use Rattle.scope.specs.Laws.Tests.{up_to_lem}
-use Rattle.scope.specs.Laws.Lists.{length_snoc}
-use Rattle.scope.specs.Laws.Alls.{all_snoc}
+use Rattle.scope.proofs.Laws.Tests.{up_to_lem}
+use Rattle.scope.proofs.Laws.Lists.{length_snoc}
+use Rattle.scope.proofs.Laws.Alls.{all_snoc}
 
 module _ {A : Type 0} (f : ℕ → A) where
   pub length_entries : (k : ℕ) → length (entries f k) ≡ k

@@ -4,11 +4,11 @@ use Rattle.std.proofs.Common.{arith, leb-true}
 use Rattle.scope.specs.Sheet.{field_count}
 use Rattle.scope.specs.Causes.{line_size, most_bytes, length_ok, line_count}
 use Rattle.scope.specs.Reading.{read}
-use Rattle.scope.specs.Laws.Scans.{Cause, size, line}
+use Rattle.scope.proofs.Laws.Scans.{Cause, size, line}
 use Rattle.scope.specs.Source.{Refusal, Source}
-use Rattle.scope.specs.Laws.Tests.{both}
-use Rattle.scope.specs.Laws.Refusals.{refused_iff, cause_number, figures_within}
-use Rattle.scope.specs.Laws.Inverse.{read_iff}
+use Rattle.scope.proofs.Laws.Tests.{both}
+use Rattle.scope.proofs.Laws.Refusals.{refused_iff, cause_number, figures_within}
+use Rattle.scope.proofs.Laws.Inverse.{read_iff}
 
 count_small : (s : List ℕ) → length_ok field_count (length s) ≡ true → line_count field_count s ≤ 530
 count_small s e =

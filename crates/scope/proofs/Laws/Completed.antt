@@ -10,7 +10,7 @@ use Rattle.scope.specs.Sheet.{number, Clause}
 use Rattle.scope.specs.Typed.{Formula, Typed, typed, Level, ors, ands, factor, Legal}
 use Rattle.scope.specs.Texts.{Starts}
 use Rattle.scope.specs.Parsing.{Around, Slot, State, feed, add_rule, add_wish, operand_done, number_done, joined_or, outside, closed, fed, move, step, Outcome, legal, stuck, at_end, go_on, walk, start}
-use Rattle.scope.specs.Laws.Reached.{Reached, start_reached, Next, step_reached}
+use Rattle.scope.proofs.Laws.Reached.{Reached, start_reached, Next, step_reached}
 
 -- ---- all the bytes of a text
 

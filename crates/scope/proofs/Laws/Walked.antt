@@ -9,8 +9,8 @@ use Rattle.scope.specs.Typed.{Formula, Typed, typed, most_number, numeral, Gap, 
 use Rattle.scope.specs.Typed as grammar
 use Rattle.scope.specs.Texts.{Starts}
 use Rattle.scope.specs.Parsing.{Around, line, bracket, first, bar, head, amp, bang, nested, Slot, State, word, digits, second, rule_line, wish_line, spaced, operand, after, sign, wish, ended, add_rule, add_wish, operand_done, number_done, joined_or, outside, is_digit, digit_of, zero_ok, nested_more, move, step, legal, stuck, at_end, go_on, walk, start}
-use Rattle.scope.specs.Laws.Lists.{length_snoc}
-use Rattle.scope.specs.Laws.Fields.{by_digits}
+use Rattle.scope.proofs.Laws.Lists.{length_snoc}
+use Rattle.scope.proofs.Laws.Fields.{by_digits}
 
 -- ---- a byte
 

@@ -10,8 +10,8 @@ use Rattle.std.proofs.Math.ListN.{get_or-append}
 use Rattle.scope.specs.Sheet.{Gate, Sheet, All, Among, Ordered}
 use Rattle.scope.specs.Meaning.{all, any, gate_truth, literal_true, keeps, switch_on, fault_on, truth, passes, kept}
 use Rattle.scope.specs.Typed.{Formula, Typed, formula_true, operators, point, gates_of, all_gates, all_points, sheet_of}
-use Rattle.scope.specs.Laws.Points.{truth_switch, truth_fault, truth_gate}
-use Rattle.scope.specs.Laws.TypedSheets.{OnSheet, length_gates, all_ordered}
+use Rattle.scope.proofs.Laws.Points.{truth_switch, truth_fault, truth_gate}
+use Rattle.scope.proofs.Laws.TypedSheets.{OnSheet, length_gates, all_ordered}
 
 -- any gate, for places past the last
 abbrev none : Gate

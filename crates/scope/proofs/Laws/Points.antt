@@ -9,7 +9,7 @@ use Rattle.std.proofs.Math.Seq.{get_or-append_seam, get_or-append-add}
 use Rattle.std.proofs.lemmas.Bool.{eqb-false}
 use Rattle.scope.specs.Sheet.{Gate, Sheet, Among, Names, Ordered}
 use Rattle.scope.specs.Meaning.{bits, nth, gate_truth, truths, switch_on, truth}
-use Rattle.scope.specs.Laws.Lists.{length_snoc}
+use Rattle.scope.proofs.Laws.Lists.{length_snoc}
 
 -- ---- digits
 

@@ -13,14 +13,14 @@ use Rattle.scope.specs.Causes.{is, zeros, literal, literals, clause, tests, star
 use Rattle.scope.specs.Reading.{tests_at}
 use Rattle.scope.specs.Words.{word, literal_code, literal_from, clause_of, wish_size, wishes_from, gate_at, rule_at, wish_at, held}
 use Rattle.scope.specs.Writing.{tests_from, table_tests}
-use Rattle.scope.specs.Laws.Tests.{clash, both}
-use Rattle.scope.specs.Laws.Alls.{all_true}
-use Rattle.scope.specs.Laws.Entries.{length_entries, all_entries}
-use Rattle.scope.specs.Laws.Words.{code_from}
-use Rattle.scope.specs.Laws.Scans.{before, Passed}
-use Rattle.scope.specs.Laws.Refusals.{accepted_iff}
-use Rattle.scope.specs.Laws.Steps.{is_plus, Step, more, done, step, Head, head_step}
-use Rattle.scope.specs.Laws.Inverse.{From, then, text_snoc, from_text, length_text, length_filled, length_body, good_lines, count, wish_parts, read_iff}
+use Rattle.scope.proofs.Laws.Tests.{clash, both}
+use Rattle.scope.proofs.Laws.Alls.{all_true}
+use Rattle.scope.proofs.Laws.Entries.{length_entries, all_entries}
+use Rattle.scope.proofs.Laws.Words.{code_from}
+use Rattle.scope.proofs.Laws.Scans.{before, Passed}
+use Rattle.scope.proofs.Laws.Refusals.{accepted_iff}
+use Rattle.scope.proofs.Laws.Steps.{is_plus, Step, more, done, step, Head, head_step}
+use Rattle.scope.proofs.Laws.Inverse.{From, then, text_snoc, from_text, length_text, length_filled, length_body, good_lines, count, wish_parts, read_iff}
 
 -- ---- a valid sheet passes, since it is accepted when its lines are read
 

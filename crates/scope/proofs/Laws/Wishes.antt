@@ -11,7 +11,7 @@ use Rattle.std.proofs.Common.{sym, ap, ◌∙◌}
 use Rattle.std.proofs.Math.ListN.{length}
 use Rattle.scope.specs.Sheet.{Number, number, Clause, Gate, Sheet, sheet, most_wishes, Valid}
 use Rattle.scope.specs.Meaning.{literal_true, keeps, broken, switch_on, kept, cost, costs}
-use Rattle.scope.specs.Laws.Tests.{clash}
+use Rattle.scope.proofs.Laws.Tests.{clash}
 
 -- ---- kept and broken
 
