@@ -22,25 +22,25 @@ use Rattle.scope.specs.Rule.{Verdict, best, whole}
 use Rattle.scope.specs.Jobs.{over, task, Result, Answer, answer_of, IsAnswer, short_of, IsShortRun, Rating, rating_of, IsRating}
 use Rattle.scope.specs.Demands.{list, listed, Ending, Demand1, Demand2, Demand3, ShortRun, Rates}
 use Rattle.scope.specs.Program.{output_rows, ListingResult, converted, IsConverted}
-use Rattle.scope.specs.Laws.Given as given
-use Rattle.scope.specs.Laws.Fields as fields
-use Rattle.scope.specs.Laws.Lines as lines
-use Rattle.scope.specs.Laws.Beginnings as beginnings
-use Rattle.scope.specs.Laws.Inverse as inverse
-use Rattle.scope.specs.Laws.SheetReads as sheetReads
-use Rattle.scope.specs.Laws.Wishes as wishes
-use Rattle.scope.specs.Laws.Rules as rules
-use Rattle.scope.specs.Laws.Demands as demands
-use Rattle.scope.specs.Laws.Outputs as outputs
-use Rattle.scope.specs.Laws.TextReads as textReads
-use Rattle.scope.specs.Laws.Walked as walked
-use Rattle.scope.specs.Laws.TypedSheets as typedSheets
-use Rattle.scope.specs.Laws.TypedTruths as typedTruths
-use Rattle.scope.specs.Laws.Words as words
-use Rattle.scope.specs.Laws.TableReads as tableReads
-use Rattle.scope.specs.Laws.Forms as forms
-use Rattle.scope.specs.Laws.Filling as filling
-use Rattle.scope.specs.Laws.Conversion as conversion
+use Rattle.scope.proofs.Laws.Given as given
+use Rattle.scope.proofs.Laws.Fields as fields
+use Rattle.scope.proofs.Laws.Lines as lines
+use Rattle.scope.proofs.Laws.Beginnings as beginnings
+use Rattle.scope.proofs.Laws.Inverse as inverse
+use Rattle.scope.proofs.Laws.SheetReads as sheetReads
+use Rattle.scope.proofs.Laws.Wishes as wishes
+use Rattle.scope.proofs.Laws.Rules as rules
+use Rattle.scope.proofs.Laws.Demands as demands
+use Rattle.scope.proofs.Laws.Outputs as outputs
+use Rattle.scope.proofs.Laws.TextReads as textReads
+use Rattle.scope.proofs.Laws.Walked as walked
+use Rattle.scope.proofs.Laws.TypedSheets as typedSheets
+use Rattle.scope.proofs.Laws.TypedTruths as typedTruths
+use Rattle.scope.proofs.Laws.Words as words
+use Rattle.scope.proofs.Laws.TableReads as tableReads
+use Rattle.scope.proofs.Laws.Forms as forms
+use Rattle.scope.proofs.Laws.Filling as filling
+use Rattle.scope.proofs.Laws.Conversion as conversion
 
 -- ---- reading, for lines of n fields
 

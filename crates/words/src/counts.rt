@@ -18,7 +18,7 @@ pub const WISHES: usize = 4;
 // how many words they take
 pub const COUNTS: usize = 5;
 
-#[derive(Drop)]
+#[derive(Clone, Copy)]
 pub struct Counts {
     pub switches: u32,
     pub faults: u32,

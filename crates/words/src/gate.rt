@@ -14,7 +14,7 @@ pub const GATE_SIZE: usize = 3;
 pub const FIRST_GATE: usize = COUNTS;
 
 // A gate: the letter of its kind, and the points that it names, the second 0 for N.
-#[derive(Drop)]
+#[derive(Clone, Copy)]
 pub struct Gate {
     pub kind: u32,
     pub left: u32,

@@ -2,6 +2,8 @@
 // words, 64 rules of one and 64 wishes of three (`held` and `words_of` in the crate `scope`, module Words). Here are its entries, read
 // and put one by one; limits, letters, the numbers of the refusals, the code of a literal; plans and patterns; small conversions.
 // The crate rests on `scope` alone.
+#![tactic(auto)]
+
 pub mod convert;
 pub mod counts;
 pub mod gate;
@@ -20,9 +22,9 @@ pub const WORDS: usize = FIRST_WISH + MOST_WISHES as usize * WISH_SIZE;
 pub type Words = [u32; WORDS];
 
 // A plan: the switches as binary digits, switch 1 highest, on as 1. The source's μ.
-#[derive(Drop)]
+#[derive(Clone, Copy)]
 pub struct Plan(pub u32);
 
 // A fault pattern: the faults as binary digits, fault 1 highest. The source's ν.
-#[derive(Drop)]
+#[derive(Clone, Copy)]
 pub struct Pattern(pub u32);

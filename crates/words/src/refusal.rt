@@ -30,7 +30,7 @@ pub const ILLEGAL: u32 = 12;
 pub const TOO_SHORT: u32 = 13;
 
 // Why a sheet, a text or tables are turned down; the number is 0 if they are not.
-#[derive(Drop)]
+#[derive(Clone, Copy)]
 pub struct Cause {
     pub number: u32,
     pub place: usize,

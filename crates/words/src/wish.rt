@@ -15,7 +15,7 @@ pub const WISH_SIZE: usize = 3;
 pub const FIRST_WISH: usize = FIRST_RULE + MOST_RULES as usize;
 
 // A wish: the codes of its literals, and then zeros.
-#[derive(Drop)]
+#[derive(Clone, Copy)]
 pub struct Wish {
     pub first: u32,
     pub second: u32,

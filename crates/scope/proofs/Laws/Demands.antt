@@ -1,5 +1,5 @@
 -- The jobs keep demands 1, 2 and 3. Assumes nothing.
-use Rattle.std.specs.Prelude.{ℕ, zero, suc, ◌≤◌, ◌<◌, Bool, true, false, List, [], ◌∷◌, ◌++◌, ◌↔◌, ◌≢◌, ◌≡◌, refl, length, get_or, take, drop}
+use Rattle.std.specs.Prelude.{ℕ, suc, ◌≤◌, ◌<◌, Bool, true, false, List, [], ◌∷◌, ◌++◌, ◌↔◌, ◌≢◌, ◌≡◌, refl, length, get_or, take, drop}
 use Rattle.std.proofs.Math.Decide.{dec_le}
 use Rattle.std.proofs.Common.{arith, append-nil, inl, inr, sym, ap, subst, ◌∙◌, drop_of_length-le, take_all, length-take-le, get_or-take, lt-ltb}
 use Rattle.std.proofs.Math.Option.{Option, none, some, some-injective}

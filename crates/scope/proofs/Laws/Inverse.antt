@@ -13,7 +13,7 @@ use Rattle.std.proofs.lemmas.List.{length-replicate, length-map, replicate-appen
 use Rattle.std.proofs.Math.Seq.{take_all}
 use borrow.Author.Tests.{eqb-true, eq-eqb, ne_eqb, ltb-true, le-leb, lt-ltb}
 use Rattle.scope.specs.Sheet.{Number, plus, Clause, Gate, Sheet, sheet, points, fits, Letter, H, N, A, O, R, W, Z, Line, line, line_bytes, text, filled, head_line, gate_line, rule_line, wish_line, end_line, body, sheet_lines, sheet_bytes, most_switches, most_faults, most_gates, most_rules, most_wishes, most_literals, All, Among, Names, Wish, Valid}
-use Rattle.scope.specs.Causes.{is, point, zeros, literals, clause, at, tests, started, add_wish, make, accepted, line_size, most_bytes, length_ok, line_count, bytes_at, Met}
+use Rattle.scope.specs.Causes.{is, point, zeros, literals, clause, tests, started, add_wish, make, accepted, line_size, most_bytes, length_ok, line_count, bytes_at, Met}
 use Rattle.scope.specs.Sheets.{Printed}
 use Rattle.scope.specs.Reading.{tests_of, add, line_of, line_at, tests_at, read_from, read}
 use Rattle.scope.proofs.Laws.Scans.{before, Passed}

@@ -16,7 +16,6 @@ use Rattle.scope.specs.Words.{held}
 use Rattle.scope.specs.Writing.{tests_from, table_tests, TablesRead, at_fault, TablesRefusal, out_of_range, too_many, wrong_field, WriteResult, written, written_of}
 use Rattle.scope.specs.Writing as writing
 use Rattle.scope.specs.Checking.{read_tables}
-use Rattle.scope.proofs.Laws.Tests.{clash}
 use Rattle.scope.proofs.Laws.Alls.{all_true, all_map}
 use Rattle.scope.proofs.Laws.Refusals.{not_both, first_in}
 use Rattle.scope.proofs.Laws.TextReads.{lines_met, line_refused, by_lines}
