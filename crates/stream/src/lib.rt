@@ -1,37 +1,36 @@
 // Standard input read to its end, and standard output written whole, for the programs. What the operating system
 // reads and writes is not proved; what is proved is that the count told is within the buffer, and that each call ends.
 //
-// Rests on the kit's `io` and `libc` alone.
+// Rests on the standard library, and on a definition of `io`, alone.
+#![tactic(auto)]
+
 ghost use Rattle.io.specs.Counts.{IsPrefixLen};
 
-const INPUT: i32 = 0;
-
-const OUTPUT: i32 = 1;
-
-const ERRORS: i32 = 2;
+use std::io::{Eprint, Print, Read};
 
 // The bytes of the input, at the start of a buffer. It is whole if it was read to its end, or fills the buffer; an
 // input whose reading failed is none, however many bytes came before.
-#[derive(Drop)]
+#[derive(Clone, Copy)]
 pub struct Input {
     pub whole: bool,
     pub len: usize,
 }
 
-// Fills the buffer from standard input, as far as that goes.
-pub fn read_input(buf: &mut [u8]) -> Input
+// Fills the buffer from the input, as far as that goes.
+pub fn read_input<R: Read>(input: &mut R, buf: &mut [u8]) -> Input
     ensures { IsPrefixLen result.len buf.new }
 {
     let mut done = 0;
     while done < buf.len() {
-        let got = libc::read(INPUT, &mut buf[done..]);
-        if got < 0 {
-            return Input {
-                whole: false,
-                len: 0,
-            };
-        }
-        let more = io::count(got, &buf[done..]);
+        let more = match input.read(&mut buf[done..]) {
+            Ok(more) => more,
+            Err(_) => {
+                return Input {
+                    whole: false,
+                    len: 0,
+                };
+            }
+        };
         if more == 0 {
             return Input {
                 whole: true,
@@ -46,19 +45,19 @@ pub fn read_input(buf: &mut [u8]) -> Input
     }
 }
 
-// Writes all of these bytes to standard output, or says that this failed.
-pub fn write_output(bytes: &[u8]) {
-    if !io::write_all(OUTPUT, bytes) {
-        say(b"planner: the output could not be written\n");
+// Writes all of these bytes to the output, or says that this failed.
+pub fn write_output<R: Print + Eprint>(rt: &R, bytes: &[u8]) {
+    if rt.write_all(bytes).is_err() {
+        say(rt, "planner: the output could not be written");
     }
 }
 
 // Says that there is no answer, as the input was not read to its end.
-pub fn say_unread() {
-    say(b"planner: the input could not be read to its end\n");
+pub fn say_unread<R: Eprint>(rt: &R) {
+    say(rt, "planner: the input could not be read to its end");
 }
 
 // Writes a line for people. That it cannot be written is nothing that anybody could be told.
-fn say(line: &[u8]) {
-    io::write_all(ERRORS, line);
+fn say<R: Eprint>(rt: &R, line: &str) {
+    let _ = rt.eprintln(line);
 }
