@@ -11,7 +11,7 @@ ghost use Rattle.scope.specs.Program.{one, listing_result, IsListing};
 ghost use Rattle.scope.specs.Filling.{read_result, IsRead};
 ghost use Rattle.jobs.specs.Figures.{result_of, rating_of, figures, rating_figures};
 
-use crate::{sheets, texts};
+use planner::{sheets, texts};
 use jobs::outcome::{Outcome, Rating};
 use words::convert::flag;
 use words::{Plan, Words};
