@@ -1,2 +1,3 @@
-// What the papers say, and what is proved of it: specs/Lib.antt has the modules in reading order. There is no code.
+// What the papers say: specs/Lib.antt has the modules in reading order. What is claimed of them is proved in proofs/Claims.antt. There is
+// no code.
 #![tactic(auto)]
