@@ -9,7 +9,7 @@
  * edit, and write tables as a sheet. docs/FORMAT.md describes sheets, texts, tables and every rule in
  * full.
  *
- * Link with target/staticlib/libplanner.a, which 'rt staticlib planner' builds:
+ * Link with target/staticlib/libplanner.a, which 'tools/build' builds:
  *
  *     cc -I include program.c target/staticlib/libplanner.a -o program
  *

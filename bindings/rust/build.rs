@@ -16,7 +16,7 @@ fn main() {
     println!("cargo:rerun-if-changed={}", archive.display());
     if !archive.is_file() {
         eprintln!("There is no {}.", archive.display());
-        eprintln!("Build it with 'rt staticlib planner' in the repository's folder,");
+        eprintln!("Build it with 'tools/build' in the repository's folder,");
         eprintln!("or name the folder that holds {ARCHIVE} by the environment variable {FOLDER}.");
         exit(1);
     }

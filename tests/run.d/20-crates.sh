@@ -2,8 +2,8 @@
 # crates.txt names the folders of crates/, so that nothing goes without a proof
 cd "$(dirname "$0")/../.." && . tests/lib.sh || exit 1
 
-# The names in crates.txt: what stands before the colon, comments left out.
-listed() { sed 's/#.*//; /:/!d; s/:.*//; s/[[:space:]]//g' crates.txt; }
+# The names in crates.txt: the first word before the colon, comments left out.
+listed() { sed 's/#.*//; /:/!d; s/:.*//; s/ .*//' crates.txt; }
 
 # The folders, hidden ones too.
 found() { find crates -mindepth 1 -maxdepth 1 -type d | sed 's|^crates/||'; }

@@ -4,10 +4,10 @@
 # A crate's specs/Lib.antt marks the modules to believe: those after a line that begins '-- to believe', up to
 # the next comment.
 #
-# - No public function of any crate promises anything in terms of a module under laws/.
-# - A promise that planner exports names modules to believe alone, and has no `requires`. Exported is what can
-#   be reached from outside: the modules that its lib.rt has as `pub mod`, and the calls for C.
-# - A module to believe imports modules to believe alone: none that only computes, none under laws/.
+# - No public function of any crate promises anything in terms of a module under Laws/, or of proofs/.
+# - A promise that is exported names modules to believe alone, and has no `requires`. Exported is what can be
+#   reached from outside: the modules that planner's lib.rt has as `pub mod`, and the calls for C of planner_c.
+# - A module to believe imports modules to believe alone: none that only computes, none under Laws/ or of proofs/.
 cd "$(dirname "$0")/../.." && . tests/lib.sh || exit 1
 
 # ---- the modules to believe, a line 'CRATE MODULE' each
@@ -21,18 +21,19 @@ for lib in crates/*/specs/Lib.antt; do
     ' "$lib"
 done >"$work/believed"
 
-# The files of what planner exports.
+# The files of what is exported, and the crates of this repository.
 {
     sed -n 's/^pub mod \([a-z_]*\);$/crates\/planner\/src\/\1.rt/p' crates/planner/src/lib.rt
-    echo crates/planner/src/calls.rt
+    echo crates/planner_c/src/calls.rt
 } >"$work/exported"
+find crates -mindepth 1 -maxdepth 1 -type d | sed 's|^crates/||' >"$work/crates"
 
 # ---- promises
 
 # A line for each public function, 'fn FILE NAME', and below it what is wrong with it.
 promises() {
     # shellcheck disable=SC2016 # the dollars are awk's
-    find crates -path '*/src/*.rt' | LC_ALL=C sort | xargs awk -v believed="$work/believed" -v exported="$work/exported" '
+    find crates -path '*/out' -prune -o -path '*/src/*.rt' -print | LC_ALL=C sort | xargs awk -v believed="$work/believed" -v exported="$work/exported" -v crates="$work/crates" '
         # The words of a clause: what stands between other signs, up to the first dot.
         function words(clause,    n, i, w, part) {
             n = split(clause, part, /[^A-Za-z0-9_.-]+/)
@@ -45,9 +46,10 @@ promises() {
         }
         function name(w,    path, crate, module) {
             path = from[w]
-            if (path ~ /\.laws\./) print "FAILED: " FILENAME ": the promise of " fn " names " w " of " path
-            else if (out && path ~ /^Rattle/) {
-                crate = path; sub(/^Rattle[^A-Za-z]*/, "", crate); sub(/[^a-z_].*/, "", crate)
+            crate = path; sub(/^Rattle\./, "", crate); sub(/\..*/, "", crate)
+            if (!(crate in ours)) return
+            if (path ~ /\.(Laws|proofs)(\.|$)/) print "FAILED: " FILENAME ": the promise of " fn " names " w " of " path
+            else if (out) {
                 module = path; sub(/.*\.specs\./, "", module)
                 if (!((crate " " module) in trust)) print "FAILED: " FILENAME ": the promise of " fn ", which is exported, names " w " of " path ", which is not marked as to be believed"
             }
@@ -55,6 +57,7 @@ promises() {
         BEGIN {
             while ((getline line < believed) > 0) trust[line] = 1
             while ((getline line < exported) > 0) open[line] = 1
+            while ((getline line < crates) > 0) ours[line] = 1
         }
         FNR == 1 { split("", from); fn = "" }
         /^ghost use .* as [^{}]*;$/ { alias = $5; sub(/;$/, "", alias); from[alias] = $3; next }
@@ -84,9 +87,11 @@ imports() {
     while read -r crate module; do
         file=crates/$crate/specs/$module.antt
         echo "mod $file"
-        sed -n 's/^use Rattle·\([a-z_]*\)\(·specs\)\{0,1\}\.specs\.\([A-Za-z.]*\).*/\1 \3/p' "$file" |
+        sed -n 's/^use Rattle\.\([a-z_]*\)\.\(specs\.\)\{0,1\}\([A-Za-z.]*\).*/\1 \3/p' "$file" |
             while read -r from name; do
                 name=${name%.}
+                # A library of the kit, or a type of the code.
+                grep -Fqx -e "$from" "$work/crates" || continue
                 case $name in declared.*) continue ;; esac
                 is_believed "$from" "$name" ||
                     echo "FAILED: $file, which is to be believed, imports $name of $from, which is not"

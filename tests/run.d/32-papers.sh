@@ -222,7 +222,7 @@ done
 heading "crates"
 
 # Lines 'CRATE: DEP DEP'.
-sed 's/#.*//; /:/!d; s/ *$//' crates.txt | sort >"$work/listed"
+sed 's/#.*//; /:/!d; s/ *$//; s/ staticlib:/:/' crates.txt | sort >"$work/listed"
 awk -F ' *[|] *' '
     /^\| Crate \| Holds \| Rests on \|/ { inside = 1; next }
     !/^\|/ { inside = 0 }
@@ -301,20 +301,20 @@ named docs/CHANGING.md >"$work/found"
 within "docs/CHANGING.md names an edit that its crate does not have" "$work/found" "$work/edits"
 
 # What is named as definition, theorem or promise, a line 'KIND WORD' each: a word is what stands in backquotes,
-# and one with a space in it is a formula. A theorem is one of Claims, or of the module of laws/ that is named before it.
+# and one with a space in it is a formula. A theorem is one of Claims, or of the module of Laws/ that is named before it.
 items docs/CLAIMS.md | awk '
     /^- (Definition|Theorems|Theorems on both ways|Promise): / {
         kind = substr($0, 3, 1)
         module = "Claims"
         while (match($0, /`[^`]*`/)) {
             word = substr($0, RSTART + 1, RLENGTH - 2)
-            if (kind == "T" && word ~ /^laws\//) module = substr(word, 6)
+            if (kind == "T" && word ~ /^Laws\//) module = substr(word, 6)
             else if (word !~ / /) print kind, (kind == "T" ? module "." : "") word
             $0 = substr($0, RSTART + RLENGTH)
         }
     }' | sort -u >"$work/words"
-# What there is: definitions by name and as MODULE.NAME, modules of specs/; functions, and modules of the code.
-find crates -path '*/specs/*.antt' -exec awk '
+# What there is: definitions by name and as MODULE.NAME, modules of specs/ and of the scope's proofs/; functions, and modules of the code.
+find crates -path '*/out' -prune -o \( -path '*/specs/*.antt' -o -path 'crates/scope/proofs/*.antt' \) -exec awk '
     FNR == 1 {
         module = FILENAME; sub(/^crates\//, "", module); sub(/\.antt$/, "", module); print module
         sub(/.*\//, "", module)
@@ -326,7 +326,7 @@ find crates -path '*/specs/*.antt' -exec awk '
             print module "." name
         }
     }' {} + | sort -u >"$work/defined"
-find crates -path '*/src/*.rt' -exec awk '
+find crates -path '*/out' -prune -o -path '*/src/*.rt' -exec awk '
     FNR == 1 {
         crate = FILENAME; sub(/^crates\//, "", crate); sub(/\/.*/, "", crate)
         module = FILENAME; sub(/.*\//, "", module); sub(/\.rt$/, "", module)

@@ -73,7 +73,7 @@
 //! comzsered = { path = "../comzsered/bindings/rust" }
 //! ```
 //!
-//! The path leads into a copy of the repository. There `rt staticlib planner` builds the proved library,
+//! The path leads into a copy of the repository. There `tools/build` builds the proved library,
 //! `target/staticlib/libplanner.a`, and the build script of this crate has it linked. If the archive lies
 //! elsewhere, name its folder:
 //!
