@@ -2,6 +2,8 @@
 // nothing, and printed from its last digit to its first. Each direction promises what the scope says: what is read is what
 // `field_of` gives, with the column where it stops being the beginning of any; what is printed is what `field` has. It rests on `words` for
 // small conversions.
+#![tactic(auto)]
+
 ghost use Rattle.std.specs.Prelude.{true, ◌≡◌, ◌+◌, ◌%◌, ◌≤◌, length, take, drop};
 ghost use Rattle.scope.specs.Sheet.{plus, field_size, digit, field, fits};
 ghost use Rattle.field.specs.Columns.{unless_last, with_digit, next, bad, found, number_from, field_from, FieldRead};
@@ -24,7 +26,7 @@ const NINE: u8 = b'9';
 const ROOM: u32 = 10000;
 
 // A whole number by sign and size.
-#[derive(Drop)]
+#[derive(Clone, Copy)]
 pub struct Number {
     pub minus: bool,
     pub size: u32,
@@ -38,7 +40,7 @@ pub fn plain(size: u32) -> Number
 }
 
 // What five columns hold; the number counts only where they are formed.
-#[derive(Drop)]
+#[derive(Clone, Copy)]
 pub struct Field {
     // where they stop being the beginning of any number, from 1; 0 if they are formed
     pub column: usize,
@@ -48,7 +50,7 @@ pub struct Field {
 // ---- reading
 
 // What the columns so far hold.
-#[derive(Drop)]
+#[derive(Clone, Copy)]
 enum Scan {
     // spaces only
     Blank,
