@@ -18,7 +18,7 @@ pub const FIELD_COUNT: usize = 3;
 
 const LINE_FEED: u8 = b'\n';
 
-#[derive(Drop)]
+#[derive(Clone, Copy)]
 pub enum Letter {
     Head,
     Not,
@@ -31,14 +31,14 @@ pub enum Letter {
 }
 
 // The fields and the line feed; the numbers count only where all of it is formed.
-#[derive(Drop)]
+#[derive(Clone, Copy)]
 pub struct Fields {
     // where they stop being the beginning of any, from 1; 0 if they are formed
     pub column: usize,
     pub numbers: [Number; MOST_FIELDS],
 }
 
-#[derive(Drop)]
+#[derive(Clone, Copy)]
 pub struct Line {
     pub letter: Letter,
     // where the line, its letter being column 1, stops being the beginning of any; 0 if it is formed
