@@ -1,7 +1,7 @@
-// The reader of typed texts: it stands at a place, and moves on past what is asked for there. The borrow checker covers no
-// function over a struct that holds a slice, so each is proved by hand, and is thin: the work is in `byte_at`, `same_byte` and
-// `same_bytes`, which take plain slices, and callers use `look`, `past_byte`, `past_word` and `skip`, which take them too.
-ghost use Rattle.std.specs.Prelude.{[], ◌∷◌, ◌≡◌};
+// The reader of typed texts: it stands at a place, and moves on past what is asked for there. Its functions are thin: the work is
+// in `byte_at`, `same_byte` and `same_bytes`, which take plain slices, and callers use `look`, `past_byte`, `past_word` and `skip`,
+// which take them too.
+ghost use Rattle.std.specs.Prelude.{[], ◌∷◌, ◌≡◌, ◌+◌, ◌<◌, ◌^◌};
 ghost use Rattle.scanner.specs.Look as specs;
 
 use words::convert::from_byte;
@@ -29,9 +29,10 @@ fn byte_at(text: &[u8], at: usize) -> u32
     }
 }
 
-// 1 if a byte stands there, else 0.
+// 1 if a byte stands there, else 0; the place past it is a number.
 fn same_byte(text: &[u8], at: usize, b: u8) -> usize
-    ensures { result ≡ specs.standing text.now at (b ∷ []) }
+    ensures value { result ≡ specs.standing text.now at (b ∷ []) }
+    ensures fits { at + result < 2 ^ 64 }
 {
     if byte_at(text, at) == from_byte(b) {
         1
@@ -40,9 +41,10 @@ fn same_byte(text: &[u8], at: usize, b: u8) -> usize
     }
 }
 
-// How many bytes of a word stand from there on.
+// How many bytes of a word stand from there on; the place past them is a number.
 fn same_bytes(text: &[u8], at: usize, word: &[u8]) -> usize
-    ensures { result ≡ specs.standing text.now at word.now }
+    ensures value { result ≡ specs.standing text.now at word.now }
+    ensures fits { at + result < 2 ^ 64 }
 {
     let mut i = 0;
     while i < word.len() {
@@ -88,7 +90,7 @@ fn pass_word<'a, 'w>(r: Reader<'a>, word: &'w [u8]) -> Reader<'a>
     }
 }
 
-// What stands at a place of a text. The parameters are a plain slice and a number, here and below, so callers are covered.
+// What stands at a place of a text. The parameters are a plain slice and a number, here and below.
 pub fn look(text: &[u8], at: usize) -> u32
     ensures { result ≡ specs.look text.now at }
 {
