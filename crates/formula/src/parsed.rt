@@ -10,7 +10,7 @@ use words::{Words, letter};
 const OR: u32 = letter::OR as u32;
 
 // What was read of a formula; or, if it is bad, the place where no legal text goes on.
-#[derive(Drop)]
+#[derive(Clone, Copy)]
 pub struct Parsed {
     // the place after it
     pub at: usize,
@@ -23,7 +23,7 @@ pub struct Parsed {
 }
 
 // The numbers of switches and faults.
-#[derive(Drop)]
+#[derive(Clone, Copy)]
 pub struct Points {
     pub switches: u32,
     pub faults: u32,
