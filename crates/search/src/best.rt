@@ -33,7 +33,7 @@ fn passes_all(sheet: &Words, list: &[u32], plan: Plan) -> bool
 }
 
 // The best plan so far, with its cost.
-#[derive(Drop)]
+#[derive(Clone, Copy)]
 pub enum Best {
     Nothing,
     At(Plan, u32),

@@ -2,5 +2,7 @@
 // into a lent list. It rests on `circuit` for what a plan passes and breaks, and on `words` for the
 // sheet; its promises are equations with the list rule of the crate `scope`, over the sheet that the
 // lent words hold.
+#![tactic(auto)]
+
 pub mod best;
 pub mod run;
