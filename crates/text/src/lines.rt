@@ -8,7 +8,7 @@ use scanner::reader::look;
 pub const HEAD_LINES: usize = 2;
 
 // The number of the first fault, or 0, and its line.
-#[derive(Drop)]
+#[derive(Clone, Copy)]
 pub struct Fault {
     pub number: u32,
     pub line: usize,
@@ -16,7 +16,7 @@ pub struct Fault {
 
 // The place after them, how many gates, rules and wishes they have, and the first fault; or, if they are bad, the place where no legal
 // text goes on.
-#[derive(Drop)]
+#[derive(Clone, Copy)]
 pub struct Lines {
     pub bad: bool,
     pub at: usize,

@@ -27,7 +27,7 @@ const FEED: u32 = b'\n' as u32;
 
 // The literals of a wish so far, each as its code, and whether all are of switches on the sheet; or, if they are bad, the place where no
 // legal text goes on.
-#[derive(Drop)]
+#[derive(Clone, Copy)]
 pub struct Literals {
     pub bad: bool,
     pub at: usize,

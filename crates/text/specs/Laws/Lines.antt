@@ -23,7 +23,7 @@ use Rattle.scope.proofs.Laws.TypedSheets.{length_gates}
 use Rattle.words.specs.Entries.{RulePut}
 use Rattle.words.specs.Tests.{test_of}
 use Rattle.words.specs.Tests as words
-use Rattle.scanner.specs.Look.{end, look, skip}
+use Rattle.scanner.specs.Look.{look, skip}
 use Rattle.scanner.specs.Tokens.{Stuck, Came, WordRead, NamedRead}
 use Rattle.formula.specs.Formulas.{LevelRead, OrsCome, Asked, Ends, and_sign, or_sign, bad_at, moved, fed_of}
 use Rattle.scanner.specs.Laws.Walks.{stands, came_came, came_stuck, alike_within}
