@@ -1,6 +1,6 @@
 -- What follows for a job from what was read. Assumes nothing.
 use Rattle.std.specs.Prelude.{ℕ, zero, suc, ◌+◌, ◌≤◌, ◌<◌, Bool, true, false, cond, List, ◌≢◌, ◌≡◌, refl, length, get_or, take, drop}
-use Rattle.std.proofs.Common.{arith, add-one, sym, ap, ap₂, ◌∙◌, drop_of_length-le, drop-cons, length-take-le, eq-eqb, ne_eqb, lt-ltb, le-ltb}
+use Rattle.std.proofs.Common.{arith, add-one, sym, ap, ap₂, drop_of_length-le, drop-cons, length-take-le, eq-eqb, ne_eqb, lt-ltb, le-ltb}
 use Rattle.std.proofs.Math.Option.{none, some}
 use Rattle.scope.specs.Sheet.{Sheet, Valid}
 use Rattle.scope.specs.Causes.{Read, accepted, refused}
