@@ -6,7 +6,7 @@ use mathlib.Core.Bool.{Bool, true, false, not, ◌&&◌}
 use mathlib.Core.List.{List, []}
 use mathlib.Core.Logic.{◌≢◌}
 use mathlib.Core.Option.{Option, none, some}
-use mathlib.Core.Path.{◌≡◌, refl, sym, ap, subst, ◌∙◌}
+use mathlib.Core.Path.{◌≡◌, refl, sym, ap, ◌∙◌}
 use lib.Dec.{eqb, leb, ltb}
 use lib.ListN.{length, take, drop}
 use borrow.Author.Tests.{eqb-true}
@@ -14,14 +14,14 @@ use Rattle.scope.specs.Sheet.{Number, Sheet, sheet, Letter, H, N, A, O, R, W, Z,
 use Rattle.scope.specs.Sheet as scope
 use Rattle.scope.specs.Causes.{literals, zeros, tests, started, length_ok, line_size, line_count, most_bytes, Met, accepted, refused}
 use Rattle.scope.specs.Sheets.{SheetRead}
-use Rattle.scope.specs.Reading.{when, joined, tests_of, add, line_at, column_at, tests_at, read}
+use Rattle.scope.specs.Reading.{when, joined, tests_of, line_at, column_at, tests_at, read}
 use Rattle.scope.specs.Words.{words_of}
 use Rattle.scope.proofs.Laws.Scans.{before, Passed, size as wrong_size, line}
 use Rattle.scope.proofs.Laws.Tests.{clash, both, up_to_lem}
 use Rattle.scope.proofs.Laws.Refusals.{cause_refuses, line_within, column_of_lem, no_cause_accepts}
 use Rattle.scope.proofs.Laws.Inverse.{read_iff}
 use Rattle.scope.proofs.Laws.SheetReads.{sheet_iff}
-use Rattle.words.specs.Entries.{counts_at, Within, Kept}
+use Rattle.words.specs.Entries.{counts_at, Kept}
 use Rattle.words.specs.Tests.{Fault}
 use Rattle.words.specs.Told.{Fills}
 use Rattle.words.specs.Laws.Sheets.{counts_words}

@@ -7,7 +7,7 @@ use mathlib.Core.Path.{◌≡◌, refl, sym, ap, ◌∙◌}
 use lib.Dec.{leb, ltb}
 use lib.ListN.{get_or}
 use borrow.Author.Tests.{leb-true}
-use Rattle.scope.specs.Sheet.{Number, plus, Clause, most_switches}
+use Rattle.scope.specs.Sheet.{Number, plus, Clause}
 use Rattle.scope.specs.Causes.{is, literal, zeros, literals, clause, at}
 use Rattle.scope.proofs.Laws.Tests.{both}
 use Rattle.scope.proofs.Laws.Steps.{is_plus}
