@@ -7,7 +7,7 @@ use words::convert::wide;
 use words::counts::counts_of;
 
 // What a line is of: the counts of switches and faults, an entry, counted from 0, or the end.
-#[derive(Drop)]
+#[derive(Clone, Copy)]
 pub enum Entry {
     Head,
     Gate(usize),

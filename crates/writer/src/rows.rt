@@ -18,7 +18,7 @@ use words::wish::{Wish, wish_at};
 use words::{Words, letter};
 
 // A line to be put: the byte of its letter, and its numbers.
-#[derive(Drop)]
+#[derive(Clone, Copy)]
 pub struct Row {
     pub letter: u8,
     pub numbers: [Number; MOST_FIELDS],

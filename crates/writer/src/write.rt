@@ -17,7 +17,7 @@ use words::Words;
 use words::refusal::{Cause, TOO_SHORT};
 
 // The length is 0 on refusal.
-#[derive(Drop)]
+#[derive(Clone, Copy)]
 pub struct WriteResult {
     // 0, or the number of the refusal
     pub number: u32,

@@ -1,6 +1,6 @@
 -- A line's numbers filled up with zeros: a zero at the end changes nothing. Assumes nothing.
 use Rattle.std.specs.Prelude.{ℕ, suc, ◌-◌, ◌≤◌, ◌<◌, Bool, true, false, cond, List, [], ◌∷◌, ◌++◌, ◌≡◌, eqb, length}
-use Rattle.std.proofs.Common.{arith, append_assoc, ap, ◌∙◌, eqb-true}
+use Rattle.std.proofs.Common.{arith, append_assoc, ◌∙◌, eqb-true}
 use Rattle.std.proofs.Math.Path.{refl}
 use Rattle.scope.specs.Sheet.{Number, plus, filled}
 use Rattle.scope.specs.Words.{literal_from, clause_of}

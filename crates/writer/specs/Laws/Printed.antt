@@ -1,5 +1,5 @@
 -- The lines of a valid held sheet put into a buffer one after another. Assumes nothing.
-use Rattle.std.specs.Prelude.{ℕ, suc, ◌+◌, ◌*◌, ◌≤◌, ◌<◌, List, [], ◌∷◌, ◌++◌, ◌≢◌, ◌≡◌, refl, length, take}
+use Rattle.std.specs.Prelude.{ℕ, suc, ◌+◌, ◌*◌, ◌≤◌, ◌<◌, List, [], ◌∷◌, ◌++◌, ◌≢◌, ◌≡◌, length, take}
 use Rattle.std.proofs.Common.{zero-add, suc-mul, mul-le-mul, mul-le-mul_right, add-one, arith, ◌∙◌, length-take-le, take-suc, take_all, ne_eqb}
 use Rattle.std.proofs.Math.Path.{sym, ap, ap₂}
 use Rattle.std.proofs.Math.ListN.{drop}

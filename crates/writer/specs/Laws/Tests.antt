@@ -10,7 +10,7 @@ use mathlib.Core.List.{List, [], ◌∷◌}
 use Rattle.std.proofs.Math.Path.{refl, ap}
 use Rattle.std.proofs.Math.ListN.{length, get_or, get_or-append, get_or-eq_default}
 use Rattle.scope.specs.Sheet.{Gate, not, and, or, Sheet, points, H, Line, line, filled, gate_line, end_line, body, most_gates, most_literals}
-use Rattle.scope.specs.Causes.{clause, tests, started, add_gate, make}
+use Rattle.scope.specs.Causes.{clause, tests, started, make}
 use Rattle.scope.specs.Words.{wish_size, wishes_from, word, gate_at, rule_at, wish_at, held}
 use Rattle.scope.specs.Writing.{tests_from, table_tests}
 use Rattle.scope.proofs.Laws.Lists.{length_snoc}

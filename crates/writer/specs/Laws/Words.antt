@@ -1,5 +1,5 @@
 -- Whether words stand for a gate that names points, or for a clause, by tests of the words. Assumes nothing.
-use Rattle.std.specs.Prelude.{ℕ, ◌/◌, ◌%◌, Bool, cond, not, ◌&&◌, List, [], ◌∷◌, ◌≢◌, ◌≡◌, eqb, leb}
+use Rattle.std.specs.Prelude.{ℕ, ◌/◌, ◌%◌, Bool, cond, not, ◌&&◌, [], ◌∷◌, ◌≢◌, ◌≡◌, eqb, leb}
 use Prim.Native.Char.{code}
 use Rattle.std.proofs.Common.{arith, ◌∙◌}
 use Rattle.std.proofs.Math.Bool.{true, false, and-true, and-false, and_assoc}

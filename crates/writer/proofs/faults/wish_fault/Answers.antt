@@ -1,0 +1,16 @@
+-- Beyond the limit nothing else is tested; below it the fields are.
+use Rattle.std.proofs.Common.{◌≤◌, ◌<◌, arith}
+use borrow.Author.Tests.{le-ltb, lt-ltb}
+use Rattle.scope.specs.Sheet.{most_wishes}
+use Rattle.writer.specs.Laws.Passed.{over, by_fields}
+use Rattle.writer.proofs.faults.wish_fault.Goals as goal
+
+pub returns-then-wide-i : goal.returns-then-wide-i
+returns-then-wide-i c =
+    let h : most_wishes ≤ c.args.i = omega (arith, c.wide.ensures, c.if-wide-i.true) in
+    rw (le-ltb _ _ h) over
+
+pub returns : goal.returns
+returns c =
+    let h : c.args.i < most_wishes = omega (arith, c.wide.ensures, c.if-wide-i.false) in
+    rw (lt-ltb _ _ h, c.test.ensures, c.is_clause.ensures, c.wish_at.ensures, c.counts_of-c.ensures) (by_fields _)
