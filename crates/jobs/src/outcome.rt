@@ -8,7 +8,7 @@ use words::refusal::{Cause, NO_PLAN};
 use words::{Pattern, Plan};
 
 // What Answer and Short run return. The number is 0 with a plan; otherwise it says why there is none, and place and column where.
-#[derive(Drop)]
+#[derive(Clone, Copy)]
 pub struct Outcome {
     pub number: u32,
     pub place: usize,
@@ -19,7 +19,7 @@ pub struct Outcome {
 }
 
 // What Rating returns.
-#[derive(Drop)]
+#[derive(Clone, Copy)]
 pub struct Rating {
     pub number: u32,
     pub place: usize,
@@ -31,7 +31,7 @@ pub struct Rating {
 }
 
 // What the three calls of demand 3 return: Answer, Short run over what it listed, and Short run over the first of that.
-#[derive(Drop)]
+#[derive(Clone, Copy)]
 pub struct PairRuns {
     pub full: Outcome,
     pub short: Outcome,

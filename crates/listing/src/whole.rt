@@ -23,7 +23,7 @@ pub const ROOM: usize = 4096;
 pub const MOST_BYTES: usize = (MOST_SWITCHES as usize + MOST_WISHES as usize + ROOM + 2) * ROW_SIZE;
 
 // What a listing shows beside the list: the numbers of its A line, and a plan, if one was found.
-#[derive(Drop)]
+#[derive(Clone, Copy)]
 pub struct Shown {
     pub number: u32,
     pub place: u32,

@@ -1,5 +1,7 @@
 // What the programs print, over what any reader told: the listing of Answer's outcome, or the sheet that a text stands for. It rests on
 // `jobs` for the outcome, and on `listing` and `writer` for its bytes.
+#![tactic(auto)]
+
 ghost use Rattle.std.specs.Prelude.{◌≡◌, ◌<◌};
 ghost use Rattle.scope.specs.Causes.{Read};
 ghost use Rattle.scope.specs.Source.{Source};

@@ -1,16 +1,16 @@
 -- The listing of what Answer returned is the program's output. Assumes nothing.
-use Rattle.std.specs.Prelude.{ℕ, ◌+◌, ◌≤◌, ◌<◌, Bool, true, false, cond, List, [], ◌∷◌, ◌++◌, ◌≢◌, ◌≡◌, refl, eqb, ltb, length, get_or, take, drop, replicate}
+use Rattle.std.specs.Prelude.{ℕ, ◌+◌, ◌≤◌, ◌<◌, Bool, true, false, cond, List, ◌∷◌, ◌++◌, ◌≢◌, ◌≡◌, eqb, ltb, length, get_or, take, drop, replicate}
 use Rattle.std.proofs.Math.Decide.{dec_le}
 use Rattle.std.proofs.Common.{arith, sym, ap₂, subst, ◌∙◌, length-append, length-drop, eqb-true, leb-true, lt-ltb, le-ltb, ne_eqb}
 use Rattle.std.proofs.Math.Path.{ap}
 use Rattle.std.proofs.lemmas.List.{length-replicate}
 use Rattle.scope.specs.Sheet.{fits, most_switches, most_wishes, All, Valid}
-use Rattle.scope.specs.Causes.{Read, accepted, refused}
+use Rattle.scope.specs.Causes.{Read}
 use Rattle.scope.specs.Source.{Source}
 use Rattle.scope.specs.Words.{held}
-use Rattle.scope.specs.Jobs.{Result, refusal, Answer, answer_of, over}
+use Rattle.scope.specs.Jobs.{Result, Answer, answer_of, over}
 use Rattle.scope.specs.Demands.{listed}
-use Rattle.scope.specs.Program.{Row, row, each, pattern_row, found_rows, plan_rows, third, answer_rows, ended, room, output_rows, rows_bytes, output, most_output, ListingResult, listing_result, placed, listing_of, IsListing}
+use Rattle.scope.specs.Program.{Row, row, each, pattern_row, found_rows, third, answer_rows, ended, room, output_rows, rows_bytes, output, most_output, ListingResult, listing_result, placed, listing_of, IsListing}
 use Rattle.scope.proofs.Laws.Outputs.{output_fits, listed_small}
 use Rattle.words.specs.declared.refusal.Cause.{Cause}
 use Rattle.words.specs.Told.{told}
