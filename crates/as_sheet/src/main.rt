@@ -3,9 +3,8 @@
 // read, and writes what it gave, is tested. An input that was not read to its end has no answer.
 #![tactic(auto)]
 
-use std::io::Input;
-
 use planner::texts::print_sheet;
+use std::io::Input;
 
 // One byte more than a text may have, so that a longer one is told.
 const INPUT: usize = 16_385;

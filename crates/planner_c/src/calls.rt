@@ -11,8 +11,8 @@ ghost use Rattle.scope.specs.Program.{one, listing_result, IsListing};
 ghost use Rattle.scope.specs.Filling.{read_result, IsRead};
 ghost use Rattle.jobs.specs.Figures.{result_of, rating_of, figures, rating_figures};
 
-use planner::{sheets, texts};
 use jobs::outcome::{Outcome, Rating};
+use planner::{sheets, texts};
 use words::convert::flag;
 use words::{Plan, Words};
 use writer::write::write;
