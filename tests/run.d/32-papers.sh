@@ -313,8 +313,8 @@ items docs/CLAIMS.md | awk '
             $0 = substr($0, RSTART + RLENGTH)
         }
     }' | sort -u >"$work/words"
-# What there is: definitions by name and as MODULE.NAME, modules of specs/ and of the scope's proofs/; functions, and modules of the code.
-find crates -path '*/out' -prune -o \( -path '*/specs/*.antt' -o -path 'crates/scope/proofs/*.antt' \) -exec awk '
+# What there is: definitions by name and as MODULE.NAME, modules of specs/, and of proofs/ of the scope and the examples; functions, and modules of the code.
+find crates -path '*/out' -prune -o \( -path '*/specs/*.antt' -o -path 'crates/scope/proofs/*.antt' -o -path 'crates/examples/proofs/*.antt' \) -exec awk '
     FNR == 1 {
         module = FILENAME; sub(/^crates\//, "", module); sub(/\.antt$/, "", module); print module
         sub(/.*\//, "", module)

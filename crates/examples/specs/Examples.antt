@@ -1,21 +1,14 @@
 -- Examples, from the bytes as they are typed, by computation. Assumes nothing.
-use Rattle.std.specs.Prelude.{ℕ, true, List, [], ◌∷◌, ◌++◌, ◌≡◌, refl, replicate}
+use Rattle.std.specs.Prelude.{ℕ, true, List, [], ◌∷◌, ◌++◌, replicate}
 use Prim.Native.String.{String}
-use Rattle.std.proofs.Common.{arith}
 use Rattle.std.proofs.Math.Option.{none, some}
-use Rattle.scope.specs.Text.{bytes, lines}
-use Rattle.scope.specs.Sheet.{Gate, sheet, number, plus, field_count, decimal, field, fields_bytes, All}
-use Rattle.scope.specs.Causes.{zeros, literals, clause, tests, make, Read, accepted, refused}
-use Rattle.scope.specs.Reading.{field_of, fields_of, letter_of, line_of, line_at, column_at, column_of, tests_at, read_from, read}
-use Rattle.scope.specs.Meaning.{bits, truths, truth, passes, keeps, broken, switch_on, kept, cost}
-use Rattle.scope.specs.Pick.{pick}
-use Rattle.scope.specs.Rule.{best, missed, short, next, rule}
-use Rattle.scope.specs.Jobs.{Answer, Result, Rating, answered, refusal, found, answer_of, IsAnswer, short_of, IsShortRun, rated, unrated, rating_of, IsRating}
+use Rattle.scope.specs.Text.{lines}
+use Rattle.scope.specs.Sheet.{Gate, sheet, number, field_count}
+use Rattle.scope.specs.Causes.{Read, accepted, refused}
+use Rattle.scope.specs.Jobs.{Answer, Result, Rating, answered, refusal, found, IsAnswer, IsShortRun, rated, unrated, IsRating}
 use Rattle.scope.specs.Source.{Gives}
-use Rattle.scope.specs.Program.{each, rows_bytes, output_rows, output, sheet_input}
+use Rattle.scope.specs.Program.{output, sheet_input}
 use Rattle.scope.specs.Sheets.{SheetRead}
-use Rattle.scope.proofs.Claims.{sheet_read, sheet_gives}
-use Rattle.scope.proofs.Laws.Alls.{all_imply}
 
 -- the sample sheet of docs/FORMAT.md
 abbrev pub sample : List String
@@ -60,17 +53,6 @@ examples =
     ∷ ("H    1    0    0" ∷ "W    1    0    0" ∷ replicate 64 "R    1    0    0" ++ "R    0    0    0" ∷ "Z   67    0    0" ∷ [], refused 3 3 0)
     ∷ []
 
-computed : All (λ e. read field_count (lines e.0) ≡ e.1) examples
-unfolding read read_from tests_at line_at column_at column_of pick fields_bytes line_of letter_of fields_of field_of field decimal tests zeros make literals clause
-computed = (refl, (refl, (refl, (refl, (refl, (refl, (refl, (refl, (refl, (refl, (refl, (refl, (refl, (refl, (refl, (refl, (refl, (refl, (refl, (refl, (refl, (refl, tt))))))))))))))))))))))
-
-pub reading : All (λ e. SheetRead field_count (lines e.0) e.1) examples
-reading = all_imply (λ e. read field_count (lines e.0) ≡ e.1) (λ e. SheetRead field_count (lines e.0) e.1) (λ e. (sheet_read field_count (omega arith) (lines e.0) e.1).0) examples computed
-
-pub printing : (field (plus 0) ≡ bytes "    0") × (field (plus 99999) ≡ bytes "99999") × (field (number true 12) ≡ bytes "  -12") × (field (number true 9999) ≡ bytes "-9999")
-unfolding field decimal
-printing = (refl, refl, refl, refl)
-
 -- ---- the jobs: one table, E1 to E10 and E14
 
 -- a job, what it is lent, and what it returns
@@ -83,17 +65,6 @@ abbrev pub Correct : Job → Type 0
 Correct (answers s lent a) = IsAnswer (SheetRead field_count (lines s)) lent a
 Correct (runs s l r) = IsShortRun (SheetRead field_count (lines s)) l r
 Correct (rates s p r) = IsRating (SheetRead field_count (lines s)) p r
-
--- by computation
-abbrev Computed : Job → Type 0
-Computed (answers s lent a) = a ≡ answer_of (read field_count (lines s)) lent
-Computed (runs s l r) = r ≡ short_of (read field_count (lines s)) l
-Computed (rates s p r) = r ≡ rating_of (read field_count (lines s)) p
-
-correct : (j : Job) → Computed j → Correct j
-correct (answers s lent a) e = (sheet_gives (lines s) (λ r. answer_of r lent) a).0 e
-correct (runs s l b) e = (sheet_gives (lines s) (λ r. short_of r l) b).0 e
-correct (rates s p b) e = (sheet_gives (lines s) (λ r. rating_of r p) b).0 e
 
 -- room for four words, which hold 7
 abbrev room : List ℕ
@@ -143,13 +114,6 @@ table =
     ∷ rates misprint 4 (unrated 2 2 9)
     ∷ []
 
-table_computed : All Computed table
-unfolding read read_from tests_at line_at column_at column_of fields_bytes line_of letter_of fields_of field_of field decimal tests zeros make literals clause rule next best missed short pick passes truth truths bits cost broken keeps switch_on
-table_computed = (refl, (refl, (refl, (refl, (refl, (refl, (refl, (refl, (refl, (refl, (refl, (refl, (refl, (refl, (refl, (refl, (refl, (refl, (refl, (refl, tt))))))))))))))))))))
-
-pub table_holds : All Correct table
-table_holds = all_imply Computed Correct correct table table_computed
-
 -- ---- the program: an input, and what it writes
 
 abbrev pub listings : List (List String × List String)
@@ -161,10 +125,3 @@ listings =
 
 abbrev pub Prints : List String × List String → Type 0
 Prints e = Gives (SheetRead field_count (sheet_input (lines e.0))) output (lines e.1)
-
-listings_computed : All (λ e. lines e.1 ≡ output (read field_count (sheet_input (lines e.0)))) listings
-unfolding output output_rows rows_bytes fields_bytes each read read_from tests_at line_at column_at column_of line_of letter_of fields_of field_of field decimal tests zeros make literals clause rule next best missed short pick passes truth truths bits cost kept broken keeps switch_on
-listings_computed = (refl, (refl, tt))
-
-pub printed : All Prints listings
-printed = all_imply (λ e. lines e.1 ≡ output (read field_count (sheet_input (lines e.0)))) Prints (λ e. (sheet_gives (sheet_input (lines e.0)) output (lines e.1)).0) listings listings_computed

@@ -1,0 +1,2 @@
+-- the tables of specs/ hold
+pub mod Examples
