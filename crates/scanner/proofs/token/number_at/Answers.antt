@@ -1,5 +1,5 @@
 -- Each return is one case of the two bytes: a zero, which is a number or not; no digit; two digits; one digit with none after it.
-use Rattle.std.proofs.Common.{refl, sym, ◌∙◌}
+use Rattle.std.proofs.Common.{arith, refl, sym, ◌∙◌}
 use Rattle.scanner.specs.Laws.Tokens.{number_zero, number_no_zero, number_none, number_one, number_two}
 use Rattle.scanner.proofs.token.number_at.Goals as goal
 
@@ -12,16 +12,16 @@ returns-then-first-eq-ZERO c = number_no_zero _ _ _ c.requires _ (sym c.look-fir
 pub returns-then-not-is_digit : goal.returns-then-not-is_digit
 returns-then-not-is_digit c =
     let e = c.look-first.ensures in
-    number_none _ _ _ c.requires _ (λ z. c.if-first-eq-ZERO.false (e ∙ z)) (rw e at (sym c.is_digit.ensures ∙ c.if-not-is_digit.true)) c.stuck-then-not-is_digit.ensures
+    number_none _ _ _ c.requires _ (λ z. omega (arith, e, z)) (rw e at (sym c.is_digit.ensures ∙ c.if-not-is_digit.true)) c.stuck-then-not-is_digit.ensures
 
 pub returns-then-is_digit : goal.returns-then-is_digit
 returns-then-is_digit c =
     let e = c.look-first.ensures in
     let f = c.look-second.ensures in
-    number_two _ _ _ c.requires _ (λ z. c.if-first-eq-ZERO.false (e ∙ z)) (rw e at (sym c.is_digit.ensures ∙ c.if-not-is_digit.false)) (rw f at (sym c.is_digit-2.ensures ∙ c.if-is_digit.true)) (rw (e, f) refl)
+    number_two _ _ _ c.requires _ (λ z. omega (arith, e, z)) (rw e at (sym c.is_digit.ensures ∙ c.if-not-is_digit.false)) (rw f at (sym c.is_digit-2.ensures ∙ c.if-is_digit.true)) (rw (e, f) refl)
 
 pub returns : goal.returns
 returns c =
     let e = c.look-first.ensures in
     let f = c.look-second.ensures in
-    number_one _ _ _ c.requires _ (λ z. c.if-first-eq-ZERO.false (e ∙ z)) (rw e at (sym c.is_digit.ensures ∙ c.if-not-is_digit.false)) (rw f at (sym c.is_digit-2.ensures ∙ c.if-is_digit.false)) (rw e refl)
+    number_one _ _ _ c.requires _ (λ z. omega (arith, e, z)) (rw e at (sym c.is_digit.ensures ∙ c.if-not-is_digit.false)) (rw f at (sym c.is_digit-2.ensures ∙ c.if-is_digit.false)) (rw e refl)
