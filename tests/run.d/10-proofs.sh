@@ -1,5 +1,5 @@
 #!/bin/sh
-# Every proof from nothing, every edit that must fail, and the programs' first runs ('rt ci')
+# Every proof, every edit that must fail, and the programs' first runs ('rt ci', which keeps what passed)
 #
 # This step comes before all that build something: what does not prove need not be built.
 cd "$(dirname "$0")/../.." && . tests/lib.sh || exit 1

@@ -21,19 +21,18 @@ for lib in crates/*/specs/Lib.antt; do
     ' "$lib"
 done >"$work/believed"
 
-# The files of what is exported, and the crates of this repository.
+# The files of what is exported.
 {
     sed -n 's/^pub mod \([a-z_]*\);$/crates\/planner\/src\/\1.rt/p' crates/planner/src/lib.rt
     echo crates/planner_c/src/calls.rt
 } >"$work/exported"
-find crates -mindepth 1 -maxdepth 1 -type d | sed 's|^crates/||' >"$work/crates"
 
 # ---- promises
 
 # A line for each public function, 'fn FILE NAME', and below it what is wrong with it.
 promises() {
     # shellcheck disable=SC2016 # the dollars are awk's
-    find crates -path '*/out' -prune -o -path '*/src/*.rt' -print | LC_ALL=C sort | xargs awk -v believed="$work/believed" -v exported="$work/exported" -v crates="$work/crates" '
+    find crates -path '*/out' -prune -o -path '*/src/*.rt' -print | LC_ALL=C sort | xargs awk -v believed="$work/believed" -v exported="$work/exported" '
         # The words of a clause: what stands between other signs, up to the first dot.
         function words(clause,    n, i, w, part) {
             n = split(clause, part, /[^A-Za-z0-9_.-]+/)
@@ -47,7 +46,7 @@ promises() {
         function name(w,    path, crate, module) {
             path = from[w]
             crate = path; sub(/^Rattle\./, "", crate); sub(/\..*/, "", crate)
-            if (!(crate in ours)) return
+            if (crate == "std") return
             if (path ~ /\.(Laws|proofs)(\.|$)/) print "FAILED: " FILENAME ": the promise of " fn " names " w " of " path
             else if (out) {
                 module = path; sub(/.*\.specs\./, "", module)
@@ -57,7 +56,6 @@ promises() {
         BEGIN {
             while ((getline line < believed) > 0) trust[line] = 1
             while ((getline line < exported) > 0) open[line] = 1
-            while ((getline line < crates) > 0) ours[line] = 1
         }
         FNR == 1 { split("", from); fn = "" }
         /^ghost use .* as [^{}]*;$/ { alias = $5; sub(/;$/, "", alias); from[alias] = $3; next }
@@ -90,8 +88,8 @@ imports() {
         sed -n 's/^use Rattle\.\([a-z_]*\)\.\(specs\.\)\{0,1\}\([A-Za-z.]*\).*/\1 \3/p' "$file" |
             while read -r from name; do
                 name=${name%.}
-                # A library of the kit, or a type of the code.
-                grep -Fqx -e "$from" "$work/crates" || continue
+                # The standard library, or a type of the code.
+                [ "$from" != std ] || continue
                 case $name in declared.*) continue ;; esac
                 is_believed "$from" "$name" ||
                     echo "FAILED: $file, which is to be believed, imports $name of $from, which is not"

@@ -294,7 +294,7 @@ run env PATH="$all" sh -c '"$0" "$1" & "$0" "$1"; wait' "$copy/planner" "$root/$
 told "two at once" 0 ''
 printf '#!/bin/sh\necho some words of rt\nexit 1\n' >"$work/rt/rt"
 run_copy "$all"
-told "a build that fails" 2 "'rt lib' failed. The last lines of target/build.log:"
+told "a build that fails" 2 "'rt lib, in crates/planner_c' failed. The last lines of target/build.log:"
 told "a build that fails" 2 "some words of rt"
 
 finish

@@ -15,12 +15,12 @@ use lib.Seq.{take-suc, take_all, length-take-le, get_or-take, get_or-drop}
 use borrow.Author.Tests.{eqb-true, eqb-false, ne_eqb, lt-ltb, le-leb, leb-true}
 use Rattle.scope.specs.Sheet.{number, field_size, digit, decimal, signed, field, fits}
 use Rattle.scope.specs.Sheet as scope
-use Rattle.scope.specs.Reading.{full, formed, field_of}
+use Rattle.scope.specs.Reading.{full, formed, field_of, field_begins, Stop}
 use Rattle.scope.proofs.Laws.Tests.{both, clash, same_some}
 use Rattle.scope.proofs.Laws.Lists.{length_snoc, part_length}
 use Rattle.scope.proofs.Laws.Fields.{by_digits, length_field, Fitting, fitting, field_iff}
 use Rattle.scope.proofs.Laws.Digits.{spaces, spaces_snoc, zero_shown, columns_of, Shown, shown_field, Part, part_digit, shown_part, spaces_part, blank_part}
-use Rattle.scope.proofs.Laws.Beginnings.{field_begins, part_begins, field_begins_lem, Stop}
+use Rattle.scope.proofs.Laws.Beginnings.{part_begins, field_begins_lem}
 use Rattle.field.specs.declared.Scan.{Scan}
 use Rattle.field.specs.declared.Scan.TheVariants.{Blank, Minus, Number, Bad}
 use Rattle.field.specs.Columns.{pick, with_digit, unless_last, next, walk, bad, found, field_from, FieldRead}

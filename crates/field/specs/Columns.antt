@@ -4,8 +4,7 @@ use Prim.Native.Char.{code}
 use Rattle.std.proofs.Math.Option.{Option, none, some}
 use Rattle.scope.specs.Sheet as scope
 use Rattle.scope.specs.Sheet.{number, field_size}
-use Rattle.scope.specs.Reading.{when, field_of}
-use Rattle.scope.proofs.Laws.Beginnings.{Stop, field_begins}
+use Rattle.scope.specs.Reading.{when, field_of, Stop, field_begins}
 use Rattle.field.specs.declared.Scan.{Scan}
 use Rattle.field.specs.declared.Scan.TheVariants.{Blank, Minus, Number, Bad}
 use Rattle.field.specs.declared.Number as made

@@ -9,7 +9,8 @@ use Rattle.scope.proofs.Laws.Lists.{length_snoc}
 use Rattle.scope.proofs.Laws.Alls.{all_take}
 use Rattle.scope.proofs.Laws.Fields.{by_digits}
 use Rattle.scope.proofs.Laws.Digits.{spaces_snoc, signed_snoc}
-use Rattle.scope.proofs.Laws.Lines.{Fit, length_fields}
+use Rattle.scope.specs.Reading.{Fit}
+use Rattle.scope.proofs.Laws.Lines.{length_fields}
 use Rattle.field.specs.Put.{put, put_next}
 
 -- what stands directly before the first digit

@@ -79,6 +79,7 @@ fn with_digit(minus: bool, n: u32, b: u8) -> Scan
 }
 
 // A field ends in a digit.
+#[tactic(auto, unfolding(crate::specs::Columns::unless_last, crate::specs::Columns::pick))]
 fn unless_last(st: Scan, left: usize) -> Scan
     ensures { result ≡ unless_last left st }
 {

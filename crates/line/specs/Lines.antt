@@ -3,8 +3,7 @@ use Rattle.std.specs.Prelude.{ℕ, suc, ◌+◌, ◌*◌, ◌≤◌, Bool, cond,
 use Rattle.std.proofs.Math.Option.{Option, none, some, get_or}
 use Rattle.scope.specs.Sheet as scope
 use Rattle.scope.specs.Sheet.{field_size}
-use Rattle.scope.specs.Reading.{when, fields_of, joined, line_of, column_of}
-use Rattle.scope.proofs.Laws.Beginnings.{Stop, fields_begin}
+use Rattle.scope.specs.Reading.{when, fields_of, joined, line_of, column_of, Stop, fields_begin}
 use Rattle.field.specs.Columns.{number_from}
 use Rattle.field.specs.declared.Number.{Number}
 use Rattle.line.specs.declared.line.Letter.{Letter}

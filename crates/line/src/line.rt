@@ -2,8 +2,7 @@
 ghost use Rattle.std.specs.Prelude.{[], ◌∷◌, ◌≡◌, ◌+◌, ◌*◌, ◌≤◌, ◌<◌, length, take, drop};
 ghost use Rattle.scope.specs.Sheet.{field_size, fields_bytes};
 ghost use Rattle.scope.specs.Causes.{line_size, at};
-ghost use Rattle.scope.specs.Reading.{letter_of, formed};
-ghost use Rattle.scope.proofs.Laws.Lines.{Fit};
+ghost use Rattle.scope.specs.Reading.{letter_of, formed, Fit};
 ghost use Rattle.line.specs.Lines.{letter_from, numbers_from, FieldsRead, LineRead, line_column};
 ghost use Rattle.field.specs.Columns.{number_from};
 ghost use Rattle.field.specs.Put.{put};

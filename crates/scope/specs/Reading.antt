@@ -1,12 +1,12 @@
 -- Reads a sheet by computing: `sheet_read` (Claims) says that it gives what SheetRead says. Assumes nothing.
-use Rattle.std.specs.Prelude.{ℕ, zero, suc, ◌+◌, ◌-◌, ◌*◌, Bool, true, false, cond, not, ◌&&◌, ◌||◌, List, [], ◌∷◌, ◌++◌, eqb, length, take, drop, replicate}
+use Rattle.std.specs.Prelude.{ℕ, zero, suc, ◌+◌, ◌-◌, ◌*◌, Bool, true, false, cond, not, ◌&&◌, ◌||◌, List, [], ◌∷◌, ◌++◌, eqb, length, take, drop, replicate, ◌≡◌}
 use Prim.Native.Char.{code}
 use Rattle.std.proofs.Math.Option.{Option, none, some, get_or}
-use Rattle.scope.specs.Sheet.{Number, number, plus, Sheet, field_size, field, fits, Letter, H, N, A, O, R, W, Z, letter_byte, Line, line, line_bytes}
+use Rattle.scope.specs.Sheet.{Number, number, plus, Sheet, field_size, field, fits, Letter, H, N, A, O, R, W, Z, letter_byte, Line, line, fields_bytes, line_bytes, All}
 use Rattle.scope.specs.Causes.{Test, tests, started, make, Read, accepted, refused, length_ok, line_count, bytes_at, is_last}
 use Rattle.scope.specs.Pick.{smallest}
 
--- ---- a line read: guess a number from the bytes, and compare what it prints; `Line-read` (Claims) says all of it
+-- ---- a line read: guess a number from the bytes, and compare what it prints; `line_read` (Claims) says all of it
 
 abbrev pub same : List ℕ → List ℕ → Bool
 same [] [] = true
@@ -61,6 +61,10 @@ unfoldable pub line_of : ℕ → List ℕ → Option Line
 line_of n [] = none
 line_of n (b ∷ s) = joined (letter_of b) (fields_of n s)
 
+-- numbers that can be printed
+abbrev pub Fit : List Number → Type 0
+Fit xs = All (λ x. fits x ≡ true) xs
+
 -- ---- the column of a malformed line; `column_told` (Claims) says all of it
 
 -- five digits: what begins a number goes on to one with as many of them as it wants
@@ -77,6 +81,17 @@ formed (some a) = true
 
 abbrev pub begins : ℕ → List ℕ → Bool
 begins n p = formed (line_of n (p ++ drop (length p) (model n)))
+
+-- the same of a field, and of n fields with their line feed
+abbrev pub field_begins : List ℕ → Bool
+field_begins p = formed (field_of (p ++ drop (length p) (field full)))
+
+abbrev pub fields_begin : ℕ → List ℕ → Bool
+fields_begin n p = formed (fields_of n (p ++ drop (length p) (fields_bytes (replicate n full))))
+
+-- a test of beginnings that s passes up to column c
+abbrev pub Stop : (List ℕ → Bool) → List ℕ → ℕ → Type 0
+Stop begun s c = (begun (take (c - 1) s) ≡ true) × (begun (take c s) ≡ false)
 
 -- the smallest c such that the first c bytes begin no well-formed line
 unfoldable pub column_of : ℕ → List ℕ → Option ℕ

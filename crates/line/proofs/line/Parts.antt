@@ -16,9 +16,9 @@ use lib.Seq.{take-take, take-add, take-suc-set, drop_at, drop-drop, drop-cons}
 use Rattle.scope.specs.Sheet.{field_size}
 use Rattle.scope.specs.Sheet as scope
 use Rattle.scope.specs.Causes.{line_size, at}
-use Rattle.scope.specs.Reading.{when, also, field_of, fields_of, letter_of, joined, line_of, formed, column_of}
+use Rattle.scope.specs.Reading.{when, also, field_of, fields_of, letter_of, joined, line_of, formed, column_of, field_begins, fields_begin, Stop}
 use Rattle.scope.proofs.Laws.Scans.{well_formed}
-use Rattle.scope.proofs.Laws.Beginnings.{some_formed, field_begins, fields_begin, Stop, field_stop, rest_stop, end_stop, letter_stop, after_letter, stop_column, column_is}
+use Rattle.scope.proofs.Laws.Beginnings.{some_formed, field_stop, rest_stop, end_stop, letter_stop, after_letter, stop_column, column_is}
 use Rattle.scope.proofs.Laws.Lists.{part_length}
 use Rattle.scope.proofs.Laws.Lines.{line_iff}
 use Rattle.field.specs.Columns.{number_from, field_from, FieldRead}

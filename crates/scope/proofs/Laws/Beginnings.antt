@@ -15,13 +15,13 @@ use borrow.Author.Tests.{ne_eqb, not-true, not-false}
 use Rattle.scope.specs.Sheet.{Number, field_size, digit, decimal, field, fits, Letter, H, letter_byte, Line, fields_bytes, line_bytes}
 use Rattle.scope.specs.Causes.{line_size}
 use Rattle.scope.specs.Sheets.{Printed, Begins, Stops}
-use Rattle.scope.specs.Reading.{field_of, also, fields_of, letter_of, joined, line_of, full, model, formed, begins, column_of}
+use Rattle.scope.specs.Reading.{field_of, also, fields_of, letter_of, joined, line_of, full, model, formed, begins, column_of, field_begins, fields_begin, Stop, Fit}
 use Rattle.scope.proofs.Laws.Scans.{Column, stopped, well_formed}
 use Rattle.scope.proofs.Laws.Tests.{clash}
 use Rattle.scope.proofs.Laws.Alls.{all_replicate}
 use Rattle.scope.proofs.Laws.Fields.{length_field, field_iff}
 use Rattle.scope.proofs.Laws.Digits.{Part, ones, filled, field_part}
-use Rattle.scope.proofs.Laws.Lines.{Fit, fields_iff, letter_iff, line_iff, length_line}
+use Rattle.scope.proofs.Laws.Lines.{fields_iff, letter_iff, line_iff, length_line}
 use Rattle.scope.proofs.Laws.Picks.{Best, pick_iff}
 
 -- ---- options
@@ -39,9 +39,6 @@ also_formed (some x) none = refl
 also_formed (some x) (some xs) = refl
 
 -- ---- a field
-
-abbrev pub field_begins : List ℕ → Bool
-field_begins p = formed (field_of (p ++ drop (length p) (field full)))
 
 full_ones : field full ≡ ones field_size
 unfolding field decimal
@@ -66,9 +63,6 @@ field_begins_lem x p [] f e =
 field_begins_lem x p (b ∷ v) f e = let (m, n, h) = field_part x p (b ∷ v) f e (omega arith) in part_begins m n p h (omega (arith, ap length e, length_field x f, length-append p (b ∷ v)))
 
 -- ---- fields and a line feed
-
-abbrev pub fields_begin : ℕ → List ℕ → Bool
-fields_begin n p = formed (fields_of n (p ++ drop (length p) (fields_bytes (replicate n full))))
 
 model_fields : (n : ℕ) → formed (fields_of n (fields_bytes (replicate n full))) ≡ true
 model_fields n = some_formed ((fields_iff n (fields_bytes (replicate n full)) (replicate n full)).1 record { printed = refl; count = length-replicate n full; fit = all_replicate (λ x. fits x ≡ true) n full refl })
@@ -161,10 +155,6 @@ begins_front : (n : ℕ) (p q : List ℕ) → Begins n (p ++ q) → Begins n p
 begins_front n p q (s, l, (r, e), h) = (s, l, (q ++ r, sym (append_assoc p q r) ∙ e), h)
 
 -- ---- the column
-
--- a test of beginnings that s passes up to column c
-abbrev pub Stop : (List ℕ → Bool) → List ℕ → ℕ → Type 0
-Stop begun s c = (begun (take (c - 1) s) ≡ true) × (begun (take c s) ≡ false)
 
 module _ (n : ℕ) (s : List ℕ) where
   not_begins : (c : ℕ) → (begins n (take c s) ≡ false) ↔ (¬ Begins n (take c s))

@@ -15,13 +15,13 @@ use borrow.Author.Tests.{eqb-true, eq-eqb, ne_eqb, ltb-true, le-leb, lt-ltb}
 use Rattle.scope.specs.Sheet.{Number, plus, Clause, Gate, Sheet, sheet, points, fits, Letter, H, N, A, O, R, W, Z, Line, line, line_bytes, text, filled, head_line, gate_line, rule_line, wish_line, end_line, body, sheet_lines, sheet_bytes, most_switches, most_faults, most_gates, most_rules, most_wishes, most_literals, All, Among, Names, Wish, Valid}
 use Rattle.scope.specs.Causes.{is, point, zeros, literals, clause, tests, started, add_wish, make, accepted, line_size, most_bytes, length_ok, line_count, bytes_at, Met}
 use Rattle.scope.specs.Sheets.{Printed}
-use Rattle.scope.specs.Reading.{tests_of, add, line_of, line_at, tests_at, read_from, read}
+use Rattle.scope.specs.Reading.{tests_of, add, line_of, line_at, tests_at, read_from, read, Fit}
 use Rattle.scope.proofs.Laws.Scans.{before, Passed}
 use Rattle.scope.proofs.Laws.Tests.{clash, both}
 use Rattle.scope.proofs.Laws.Lists.{length_snoc, shorter, to_right}
 use Rattle.scope.proofs.Laws.Alls.{all_imply, all_append, all_middle, all_replicate, all_map}
 use Rattle.scope.proofs.Laws.Gates.{ordered_at, ordered_names}
-use Rattle.scope.proofs.Laws.Lines.{Fit, line_iff, length_line}
+use Rattle.scope.proofs.Laws.Lines.{line_iff, length_line}
 use Rattle.scope.proofs.Laws.Refusals.{met_none, accepted_iff}
 use Rattle.scope.proofs.Laws.Steps.{Step, more, done, step, Head, head_step}
 

@@ -3,16 +3,13 @@ use Rattle.std.specs.Prelude.{ℕ, zero, suc, ◌+◌, ◌*◌, Bool, true, fals
 use Prim.Native.Char.{code}
 use Rattle.std.proofs.Common.{suc-mul, arith, sym, ap, ap₂, subst, ◌∙◌, length-append, take-append-drop, take_at, drop_at, eqb-true}
 use Rattle.std.proofs.Math.Option.{Option, none, some, none-ne-some}
-use Rattle.scope.specs.Sheet.{Number, field_size, field, fits, Letter, H, N, A, O, R, W, Z, letter_byte, Line, line, fields_bytes, line_bytes, All}
+use Rattle.scope.specs.Sheet.{Number, field_size, field, Letter, H, N, A, O, R, W, Z, letter_byte, Line, line, fields_bytes, line_bytes}
 use Rattle.scope.specs.Causes.{line_size}
 use Rattle.scope.specs.Sheets.{Printed}
-use Rattle.scope.specs.Reading.{same, field_of, also, fields_of, letter_from, letter_of, joined, line_of}
+use Rattle.scope.specs.Reading.{Fit, same, field_of, also, fields_of, letter_from, letter_of, joined, line_of}
 use Rattle.scope.proofs.Laws.Fields.{same_true, length_field, when_some, field_iff}
 
 -- ---- fields
-
-abbrev pub Fit : List Number → Type 0
-Fit xs = All (λ x. fits x ≡ true) xs
 
 pub length_fields : (xs : List Number) → Fit xs → length (fields_bytes xs) ≡ length xs * field_size + 1
 unfolding fields_bytes

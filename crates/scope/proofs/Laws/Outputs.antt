@@ -11,7 +11,7 @@ use Rattle.scope.specs.Rule.{Verdict, plan, no_plan, no_room, rule}
 use Rattle.scope.specs.Jobs.{task, Result, result, Answer, answer_of}
 use Rattle.scope.specs.Demands.{listed}
 use Rattle.scope.specs.Program.{Row, row, one, each, third, switch_row, wish_row, pattern_row, plan_rows, found_rows, answer_rows, ended, room, output_rows}
-use Rattle.scope.proofs.Laws.Lines.{Fit}
+use Rattle.scope.specs.Reading.{Fit}
 use Rattle.scope.proofs.Laws.Alls.{all_true, all_append, at_all}
 use Rattle.scope.proofs.Laws.Inverse.{plus_fits}
 use Rattle.scope.proofs.Laws.Points.{length_bits}

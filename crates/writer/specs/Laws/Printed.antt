@@ -10,7 +10,7 @@ use Rattle.scope.specs.Words.{held}
 use Rattle.scope.specs.Writing.{TablesRead, written, IsWritten}
 use Rattle.scope.specs.Writing as writing
 use Rattle.scope.proofs.Laws.Lists.{length_snoc}
-use Rattle.scope.proofs.Laws.Lines.{Fit}
+use Rattle.scope.specs.Reading.{Fit}
 use Rattle.scope.proofs.Laws.Alls.{all_take, all_at}
 use Rattle.scope.proofs.Laws.Inverse.{Good, length_text, text_snoc, good_lines, few_body}
 use Rattle.scope.proofs.Laws.Writing.{length_lines, sheet_size}

@@ -1,4 +1,5 @@
 -- A cause is told; with none the sheet is valid, as long as its lines, and 13 is told by that length, or its lines are put.
+use Rattle.std.proofs.Common.{◌+◌, ◌*◌, ◌<◌, length, arith}
 use Rattle.writer.specs.Laws.Printed.{needed, whole, too_short, valid_told, fault_told}
 use Rattle.writer.proofs.write.write_form.Goals as goal
 
@@ -16,7 +17,8 @@ returns-then-out-need c =
     let f = c.first_cause-cause in
     let v = valid_told a.n s.0 u f.result (f.ensures a.n s.0) c.if-cause-ne0.false in
     let z = c.line_size-size in
-    rw (c.refused-then-out-need.ensures a.out.now) (too_short a.n s.0 u v z.result z.ensures a.out.now (rw c.line_count.ensures at c.if-out-need.true))
+    let h : length a.out.now < (c.line_count.result + 1) * z.result = omega arith in
+    rw (c.refused-then-out-need.ensures a.out.now) (too_short a.n s.0 u v z.result z.ensures a.out.now (rw c.line_count.ensures at h))
 
 pub put_lines-requires : goal.put_lines-requires
 put_lines-requires c =
@@ -26,7 +28,7 @@ put_lines-requires c =
     let f = c.first_cause-cause in
     let v = valid_told a.n s.0 u f.result (f.ensures a.n s.0) c.if-cause-ne0.false in
     let z = c.line_size-size in
-    (s.0, s.1, z.ensures, v, rw (needed a.n s.0 u v z.result z.ensures, ← c.line_count.ensures) c.if-out-need.false)
+    (s.0, s.1, z.ensures, v, rw (needed a.n s.0 u v z.result z.ensures, ← c.line_count.ensures) (omega arith))
 
 pub returns : goal.returns
 returns c =
@@ -37,4 +39,4 @@ returns c =
     let v = valid_told a.n s.0 u f.result (f.ensures a.n s.0) c.if-cause-ne0.false in
     let z = c.line_size-size in
     let k = c.line_count.ensures in
-    rw k (whole a.n s.0 u v z.result z.ensures a.out.now (rw (needed a.n s.0 u v z.result z.ensures, ← k) c.if-out-need.false) c.put_lines.new.out c.put_lines.ensures)
+    rw k (whole a.n s.0 u v z.result z.ensures a.out.now (rw (needed a.n s.0 u v z.result z.ensures, ← k) (omega arith)) c.put_lines.new.out c.put_lines.ensures)
