@@ -244,7 +244,7 @@ run_copy() { # FOLDERS
 }
 all=$work/rt:$work/cargo:$work/tools
 target/bin/plan <"$sample" >"$work/direct"
-building="planner: proving and building, once after each change; from nothing this takes about five minutes"
+building="planner: proving and building, once after each change; from nothing this takes about nine minutes"
 prove='rt lib,rt run,rt run,rt run,'
 
 # One test: the copy was built by these calls, said so in one line, and answered.
