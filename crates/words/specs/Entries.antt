@@ -1,31 +1,47 @@
 -- Entries as the code holds them, and what one more of them makes of the words of a sheet: in no promise of an exported call. Assumes nothing.
-use Rattle.std.specs.Prelude.{ℕ, ◌+◌, ◌*◌, ◌≤◌, List, [], ◌∷◌, ◌≡◌, length}
-use Rattle.scope.specs.Sheet.{Sheet, sheet, Clause, most_gates, most_rules, most_wishes}
+use Rattle.std.specs.Prelude.{ℕ, ◌+◌, ◌≤◌, List, ◌≡◌, length}
+use Rattle.scope.specs.Sheet.{Sheet, sheet, number, Clause, most_gates, most_rules, most_wishes}
 use Rattle.scope.specs.Sheet as scope
 use Rattle.scope.specs.Causes.{add_gate, add_rule, add_wish}
-use Rattle.scope.specs.Words.{gate_size, wish_size, gates_from, wishes_from, word, gate_of, clause_of, gate_words, wish_words, words_of}
+use Rattle.scope.specs.Words.{gate_size, wish_size, gates_from, wishes_from, word, gate_of, clause_of, wish_words, words_of}
+use Rattle.words.specs.Tables.{entry_at}
 use Rattle.words.specs.declared.counts.Counts.{Counts}
 use Rattle.words.specs.declared.gate.Gate.{Gate}
-use Rattle.words.specs.declared.wish.Wish.{Wish}
+use Rattle.words.specs.declared.gate.Gate.TheVariants.{Not, And, Or}
+use Rattle.words.specs.declared.literal.Literal.{Literal}
 
 -- ---- what the code's values stand for
 
 abbrev pub gate_from : Gate → scope.Gate
-gate_from g = gate_of g.kind g.left g.right
+gate_from (Not p) = scope.not p
+gate_from (And p q) = scope.and p q
+gate_from (Or p q) = scope.or p q
 
-abbrev pub clause_from : Wish → Clause
-clause_from w = clause_of w.first w.second w.third
+abbrev pub literal_of : Literal → scope.Number
+literal_of l = number l.minus l.switch
+
+-- a gate and a wish by their three words
+abbrev pub gate_of_words : List ℕ → scope.Gate
+gate_of_words g = gate_of (word g 0) (word g 1) (word g 2)
+
+abbrev pub clause_from : List ℕ → Clause
+clause_from w = clause_of (word w 0) (word w 1) (word w 2)
 
 -- ---- entries of words
 
 abbrev pub counts_at : List ℕ → Counts
 counts_at s = record { switches = word s 0; faults = word s 1; gates = word s 2; rules = word s 3; wishes = word s 4 }
 
-abbrev pub gate_words_at : List ℕ → ℕ → Gate
-gate_words_at s i = record { kind = word s (i * gate_size + gates_from); left = word s (i * gate_size + (gates_from + 1)); right = word s (i * gate_size + (gates_from + 2)) }
+abbrev pub gate_words_at : List ℕ → ℕ → List ℕ
+gate_words_at s i = entry_at gates_from gate_size s i
 
-abbrev pub wish_words_at : List ℕ → ℕ → Wish
-wish_words_at s i = record { first = word s (i * wish_size + wishes_from); second = word s (i * wish_size + (wishes_from + 1)); third = word s (i * wish_size + (wishes_from + 2)) }
+abbrev pub wish_words_at : List ℕ → ℕ → List ℕ
+wish_words_at s i = entry_at wishes_from wish_size s i
+
+-- ---- the counts of a sheet
+
+abbrev pub counts_from : Sheet → Counts
+counts_from t = record { switches = t.switches; faults = t.faults; gates = length t.gates; rules = length t.rules; wishes = length t.wishes }
 
 -- ---- the words of a sheet that is being read, and one entry more
 
@@ -42,11 +58,12 @@ Kept t s = Within t → s ≡ words_of t
 abbrev pub HeadPut : (a f : ℕ) (before after : List ℕ) → Type 0
 HeadPut a f s u = (t : Sheet) → Kept t s → Kept (sheet a f t.gates t.rules t.wishes) u
 
-abbrev pub GatePut : Gate → (before after : List ℕ) → Type 0
-GatePut g s u = (t : Sheet) (x : scope.Gate) → g.kind ∷ g.left ∷ g.right ∷ [] ≡ gate_words x → Kept t s → Kept (add_gate t x) u
+abbrev pub GatePut : scope.Gate → (before after : List ℕ) → Type 0
+GatePut g s u = (t : Sheet) → Kept t s → Kept (add_gate t g) u
 
 abbrev pub RulePut : (point : ℕ) (before after : List ℕ) → Type 0
 RulePut p s u = (t : Sheet) → Kept t s → Kept (add_rule t p) u
 
-abbrev pub WishPut : Wish → (before after : List ℕ) → Type 0
-WishPut w s u = (t : Sheet) (x : Clause) → w.first ∷ w.second ∷ w.third ∷ [] ≡ wish_words x → Kept t s → Kept (add_wish t x) u
+-- w are the words of a wish
+abbrev pub WishPut : (w : List ℕ) (before after : List ℕ) → Type 0
+WishPut w s u = (t : Sheet) (x : Clause) → w ≡ wish_words x → Kept t s → Kept (add_wish t x) u

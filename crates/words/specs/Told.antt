@@ -1,15 +1,11 @@
--- What a reader's result and the words that it filled tell. Assumes nothing.
-use Rattle.std.specs.Prelude.{ℕ, cond, List, ◌≡◌, eqb}
+-- What a reader's result tells. Assumes nothing.
+use Rattle.std.specs.Prelude.{Result, Ok, Err}
+use Rattle.scope.specs.Sheet.{Sheet}
 use Rattle.scope.specs.Causes.{Read, accepted, refused}
-use Rattle.scope.specs.Words.{held, words_of}
 use Rattle.words.specs.declared.refusal.Cause.{Cause}
+use Rattle.words.specs.Refusals.{number_of}
 
--- the sheet that the words hold, or the cause to turn it down
-abbrev pub told : Cause → List ℕ → Read
-told c s = cond (eqb c.number 0) (accepted (held s)) (refused c.number c.place c.column)
-
--- what is told is what R says is read; where a sheet is accepted, there is no cause, and words beyond its counts are 0
-pub record Fills (R : Read → Type 0) (c : Cause) (s : List ℕ) : Type 0 where
-  pub read : R (told c s)
-  pub none : c.number ≡ 0 → (c.place ≡ 0) × (c.column ≡ 0)
-  pub zeros : c.number ≡ 0 → s ≡ words_of (held s)
+-- the sheet, or the cause to turn it down
+abbrev pub told : Result Sheet Cause → Read
+told (Ok t) = accepted t
+told (Err c) = refused (number_of c.refusal) c.place c.column

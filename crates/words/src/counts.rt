@@ -27,22 +27,23 @@ pub struct Counts {
     pub wishes: u32,
 }
 
-pub fn counts_of(sheet: &Words) -> Counts
-    ensures { result ≡ counts_at sheet.now }
+pub fn counts_of(words: &Words) -> Counts
+    ensures { result ≡ counts_at words.now }
 {
+    let [switches, faults, gates, rules, wishes, ..] = *words;
     Counts {
-        switches: sheet[SWITCHES],
-        faults: sheet[FAULTS],
-        gates: sheet[GATES],
-        rules: sheet[RULES],
-        wishes: sheet[WISHES],
+        switches,
+        faults,
+        gates,
+        rules,
+        wishes,
     }
 }
 
-// The sheet with so many switches and faults.
-pub fn put_head(sheet: &mut Words, switches: u32, faults: u32)
-    ensures { HeadPut switches faults sheet.old sheet.new }
+// The words with so many switches and faults.
+pub fn put_head(words: &mut Words, switches: u32, faults: u32)
+    ensures { HeadPut switches faults words.old words.new }
 {
-    sheet[SWITCHES] = switches;
-    sheet[FAULTS] = faults;
+    words[SWITCHES] = switches;
+    words[FAULTS] = faults;
 }

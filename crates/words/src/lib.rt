@@ -1,17 +1,17 @@
-// What several layers share. A planning sheet is one array of words, lent as `&Words`: five counts, then room for 400 gates of three
-// words, 64 rules of one and 64 wishes of three (`held` and `words_of` in the crate `scope`, module Words). Here are its entries, read
-// and put one by one; limits, letters, the numbers of the refusals, the code of a literal; plans and patterns; small conversions.
-// The crate rests on `scope` alone.
+// What several layers share. A planning sheet is one array of words, `Words`: five counts, then room for 400 gates of three words, 64
+// rules of one and 64 wishes of three (`held` and `words_of` in the crate `scope`, module Words). `Sheet` is such an array that holds a
+// valid sheet, and nothing beyond its counts; a contract sees it as the scope's sheet. Here are the entries of both, read and put one
+// by one; limits, refusals, literals; plans and patterns. The crate rests on `scope` alone.
 #![tactic(auto)]
 
-pub mod convert;
 pub mod counts;
 pub mod gate;
-pub mod letter;
 pub mod limit;
 pub mod literal;
 pub mod refusal;
 pub mod rule;
+pub mod sheet;
+pub mod table;
 pub mod wish;
 
 use limit::MOST_WISHES;

@@ -1,14 +1,35 @@
-// The code of a literal: k is 2k, and -k is 2k + 1.
+// A literal, and its code: k is 2k, and -k is 2k + 1.
 ghost use Rattle.std.specs.Prelude.{◌≡◌, ◌≤◌};
-ghost use Rattle.scope.specs.Sheet.{number};
-ghost use Rattle.scope.specs.Words.{literal_code};
+ghost use Rattle.scope.specs.Words as scope;
+ghost use Rattle.words.specs.Entries.{literal_of};
 
-pub fn literal_code(minus: bool, size: u32) -> u32
-    requires { size ≤ 99 }
-    ensures { result ≡ literal_code (number minus size) }
-{
-    if minus {
-        return size * 2 + 1;
+// Switch k on, or off where there is a minus.
+#[derive(Clone, Copy)]
+pub struct Literal {
+    pub minus: bool,
+    pub switch: u32,
+}
+
+impl Literal {
+    pub fn code(self) -> u32
+        requires { self.switch ≤ 99 }
+        ensures { result ≡ scope.literal_code (literal_of self) }
+    {
+        self.switch * 2 + u32::from(self.minus)
     }
-    size * 2
+}
+
+impl From<u32> for Literal {
+    ghost use Rattle.std.specs.Prelude.{◌≡◌};
+    ghost use Rattle.scope.specs.Words.{literal_from};
+    ghost use Rattle.words.specs.Entries.{literal_of};
+
+    ghost from_gives = { λ code l. literal_of l ≡ literal_from code };
+
+    fn from(code: u32) -> Literal {
+        Literal {
+            minus: code % 2 == 1,
+            switch: code / 2,
+        }
+    }
 }

@@ -1,48 +1,72 @@
-// The numbers of the refusals, for all forms and all jobs.
-ghost use Rattle.std.specs.Prelude.{◌≡◌};
-ghost use Rattle.words.specs.Tests.{test_of};
+// The refusals, for all forms and all jobs.
+ghost use Rattle.std.specs.Prelude.{◌≡◌, cond, Ok, Err};
 
-// wrong length of a sheet
-pub const LENGTH: u32 = 1;
-// line malformed or letter unknown
-pub const MALFORMED: u32 = 2;
-// letter not allowed at this line
-pub const ORDER: u32 = 3;
-// switches or faults outside their range
-pub const RANGE: u32 = 4;
-// one gate, rule or wish too many
-pub const LIMIT: u32 = 5;
-// point or literal not allowed, unused field not 0, literal after a 0
-pub const FIELDS: u32 = 6;
-// wrong number of lines
-pub const COUNT: u32 = 7;
-// no plan keeps all rules
-pub const NO_PLAN: u32 = 8;
-// the list is longer than its room
-pub const NO_ROOM: u32 = 9;
-// the rated plan is too high
-pub const HIGH_PLAN: u32 = 10;
-// a given pattern is too high
-pub const HIGH_PATTERN: u32 = 11;
-// a text too long or not legal
-pub const ILLEGAL: u32 = 12;
-// the buffer is too short
-pub const TOO_SHORT: u32 = 13;
+// Each stands for the papers' number (`number_of` in specs/Refusals).
+#[derive(Clone, Copy, PartialEq, Eq)]
+pub enum Refusal {
+    // wrong length of a sheet
+    Length = 1,
+    // line malformed or letter unknown
+    Malformed,
+    // letter not allowed at this line
+    Order,
+    // switches or faults outside their range
+    Range,
+    // one gate, rule or wish too many
+    Limit,
+    // point or literal not allowed, unused field not 0, literal after a 0
+    Fields,
+    // wrong number of lines
+    Count,
+    // no plan keeps all rules
+    NoPlan,
+    // the list is longer than its room
+    NoRoom,
+    // the rated plan is too high
+    HighPlan,
+    // a given pattern is too high
+    HighPattern,
+    // a text too long or not legal
+    Illegal,
+    // the buffer is too short
+    TooShort,
+}
 
-// Why a sheet, a text or tables are turned down; the number is 0 if they are not.
+impl From<Refusal> for u32 {
+    ghost use Rattle.std.specs.Prelude.{◌≡◌};
+    ghost use Rattle.words.specs.Refusals.{number_of};
+
+    ghost from_gives = { λ r n. n ≡ number_of r };
+
+    fn from(r: Refusal) -> u32 {
+        r as u32
+    }
+}
+
+// Why a sheet, a text, tables or a job are turned down, and where.
 #[derive(Clone, Copy)]
 pub struct Cause {
-    pub number: u32,
+    pub refusal: Refusal,
     pub place: usize,
     pub column: usize,
 }
 
-// A test before others: `number` unless it is met, and then what they give.
-pub fn test(number: u32, met: bool, later: u32) -> u32
-    ensures { result ≡ test_of number met later }
-{
-    if met {
-        return later;
+// A cause that has no column; that of a list or a plan has no line either.
+impl Cause {
+    pub fn at(refusal: Refusal, place: usize) -> Cause
+        ensures { result ≡ record { refusal = refusal; place = place; column = 0 } }
+    {
+        Cause {
+            refusal,
+            place,
+            column: 0,
+        }
     }
-    number
+}
+
+// A test, and the refusal that it spares.
+pub fn require(met: bool, refusal: Refusal) -> Result<(), Refusal>
+    ensures { result ≡ cond met (Ok tt) (Err refusal) }
+{
+    if met { Ok(()) } else { Err(refusal) }
 }

@@ -1,7 +1,0 @@
--- what is proved of the definitions
-pub mod Rooms
-pub mod Puts
-pub mod Sheets
-pub mod Told
-pub mod Tests
-pub mod Held

@@ -1,0 +1,82 @@
+// A valid sheet, and its entries.
+ghost use Rattle.std.specs.Prelude.{◌≡◌, ◌<◌, List, length, get_or};
+ghost use Rattle.scope.specs.Sheet.{Valid};
+ghost use Rattle.scope.specs.Sheet as scope;
+ghost use Rattle.scope.specs.Words.{no_gate, words_of};
+ghost use Rattle.words.specs.Entries.{counts_from, gate_from, clause_from};
+
+use crate::Words;
+use crate::counts::{Counts, counts_of};
+use crate::gate::{AND, Gate, NOT, gate_words};
+use crate::rule::rule_at;
+use crate::wish::{Wish, wish_at};
+use std::marker::Model;
+
+// The words of a valid sheet: zeros stand beyond its counts.
+#[derive(Drop)]
+pub struct Sheet {
+    words: Words,
+}
+
+impl Model for Sheet {
+    ghost use Rattle.std.specs.Prelude.{◌≡◌};
+    ghost use Rattle.scope.specs.Sheet.{Sheet, Valid};
+    ghost use Rattle.scope.specs.Words.{held, words_of};
+
+    ghost Value = { Sheet };
+
+    ghost view = { λ s. held s.words };
+
+    ghost invariant = { λ s. Valid (held s.words) × (s.words ≡ words_of (held s.words)) };
+}
+
+impl Sheet {
+    pub fn new(words: Words) -> Sheet
+        ghost t: { scope.Sheet }
+        requires valid { Valid t }
+        requires words { words ≡ words_of t }
+        ensures { result ≡ t }
+    {
+        Sheet { words }
+    }
+
+    pub fn words(&self) -> &Words
+        ensures { result.now ≡ words_of self.now }
+    {
+        &self.words
+    }
+
+    pub fn counts(&self) -> Counts
+        ensures valid { Valid self.now }
+        ensures counts { result ≡ counts_from self.now }
+    {
+        counts_of(&self.words)
+    }
+
+    // Gate i, counted from 0, as rules and wishes are.
+    pub fn gate(&self, i: usize) -> Gate
+        requires { i < length self.now.gates }
+        ensures { gate_from result ≡ get_or self.now.gates i no_gate }
+    {
+        let [kind, left, right] = gate_words(&self.words, i);
+        match kind {
+            NOT => Gate::Not(left),
+            AND => Gate::And(left, right),
+            _ => Gate::Or(left, right),
+        }
+    }
+
+    pub fn rule(&self, i: usize) -> u32
+        requires { i < length self.now.rules }
+        ensures { result ≡ get_or self.now.rules i 0 }
+    {
+        rule_at(&self.words, i)
+    }
+
+    pub fn wish(&self, i: usize) -> Wish
+        requires { i < length self.now.wishes }
+        ensures { clause_from result ≡ get_or self.now.wishes i [] }
+    {
+        wish_at(&self.words, i)
+    }
+}
