@@ -4,3 +4,5 @@ pub mod Told
 -- steps of the code, which no promise of an exported call names
 pub mod Tables
 pub mod Entries
+-- proved of them
+pub mod Laws

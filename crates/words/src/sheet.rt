@@ -1,5 +1,5 @@
 // A valid sheet, and its entries.
-ghost use Rattle.std.specs.Prelude.{◌≡◌, ◌<◌, List, length, get_or};
+ghost use Rattle.std.specs.Prelude.{[], ◌≡◌, ◌<◌, length, get_or};
 ghost use Rattle.scope.specs.Sheet.{Valid};
 ghost use Rattle.scope.specs.Sheet as scope;
 ghost use Rattle.scope.specs.Words.{no_gate, words_of};

@@ -20,7 +20,7 @@ pub struct Table<const N: usize> {
 // Entry i, counted from 0.
 pub fn entry<const N: usize>(table: Table<N>, words: &Words, i: usize) -> [u32; N]
     requires { i < table.most }
-    ensures { result ≡ entry_at table.first N words.now i }
+    ensures { result ≡ entry_at table.entry.first N words.now i }
 {
     let at = table.first + i * N;
     let mut entry = [0; N];
@@ -30,7 +30,7 @@ pub fn entry<const N: usize>(table: Table<N>, words: &Words, i: usize) -> [u32; 
 
 // One more entry, if there is room.
 pub fn push<const N: usize>(table: Table<N>, words: &mut Words, entry: [u32; N])
-    ensures { words.new ≡ pushed table.count table.first table.most N entry words.old }
+    ensures { words.new ≡ pushed table.entry.count table.entry.first table.entry.most N entry.entry words.old }
 {
     let n = words[table.count];
     if table.most <= n {

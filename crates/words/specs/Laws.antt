@@ -1,0 +1,5 @@
+-- what is proved of the definitions
+pub mod Rooms
+pub mod Puts
+pub mod Sheets
+pub mod Held

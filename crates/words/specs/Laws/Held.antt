@@ -1,0 +1,88 @@
+-- Each entry of the sheet that words hold, by its words; of a valid one the words are again those of the entry. Assumes nothing.
+use Rattle.std.specs.Prelude.{ℕ, ◌+◌, ◌*◌, ◌<◌, List, [], ◌∷◌, ◌≢◌, ◌≡◌, length, get_or, refl}
+use Rattle.std.proofs.Common.{arith, sym, ap, ◌∙◌, get_or-take, get_or-drop}
+use Prim.Native.Char.{code}
+use Rattle.scope.specs.Sheet.{Clause, Among, Valid, points}
+use Rattle.scope.specs.Sheet as scope
+use Rattle.scope.specs.Words.{gate_size, wish_size, gates_from, wishes_from, word, no_gate, gate_of, clause_of, gate_words, wish_words, gate_at, rule_at, wish_at, held, Used}
+use Rattle.scope.proofs.Laws.Alls.{all_at}
+use Rattle.scope.proofs.Laws.Entries.{length_entries}
+use Rattle.scope.proofs.Laws.Entries as entries
+use Rattle.scope.proofs.Laws.Words.{gate_sized, wish_sized, gate_word, wish_word, words_kept}
+use Rattle.words.specs.Tables.{entry_at}
+use Rattle.words.specs.Entries.{gate_of_words, clause_from, counts_at, gate_words_at, wish_words_at}
+
+three_words : (l : List ℕ) → length l ≡ 3 → {x y z : ℕ} → word l 0 ≡ x → word l 1 ≡ y → word l 2 ≡ z → l ≡ x ∷ y ∷ z ∷ []
+three_words [] n p q r = absurd (omega arith)
+three_words (a ∷ []) n p q r = absurd (omega arith)
+three_words (a ∷ b ∷ []) n p q r = absurd (omega arith)
+three_words (a ∷ b ∷ c ∷ []) n p q r = cc
+three_words (a ∷ b ∷ c ∷ d ∷ l) n p q r = absurd (omega arith)
+
+-- word j of entry i
+word_entry : (from n : ℕ) (s : List ℕ) (i j : ℕ) → j < n → word (entry_at from n s i) j ≡ word s (from + i * n + j)
+word_entry from n s i j h = get_or-take n _ j 0 h ∙ get_or-drop (from + i * n) s j 0
+
+module _ (s : List ℕ) where
+  gate_word_at : (i j : ℕ) → j < gate_size → word (gate_words_at s i) j ≡ word s (i * gate_size + (gates_from + j))
+  gate_word_at i j h = let e : gates_from + i * gate_size + j ≡ i * gate_size + (gates_from + j) = omega arith in word_entry gates_from gate_size s i j h ∙ ap (word s) e
+
+  wish_word_at : (i j : ℕ) → j < wish_size → word (wish_words_at s i) j ≡ word s (i * wish_size + (wishes_from + j))
+  wish_word_at i j h = let e : wishes_from + i * wish_size + j ≡ i * wish_size + (wishes_from + j) = omega arith in word_entry wishes_from wish_size s i j h ∙ ap (word s) e
+
+  gate_by_words : (i : ℕ) → gate_at s i ≡ gate_of_words (gate_words_at s i)
+  gate_by_words i = rw (gate_word_at i 0 (omega arith), gate_word_at i 1 (omega arith), gate_word_at i 2 (omega arith))
+
+  wish_by_words : (i : ℕ) → wish_at s i ≡ clause_from (wish_words_at s i)
+  wish_by_words i = rw (wish_word_at i 0 (omega arith), wish_word_at i 1 (omega arith), wish_word_at i 2 (omega arith))
+
+  -- ---- how many there are, and each of them
+
+  pub held_gates : length (held s).gates ≡ (counts_at s).gates
+  held_gates = length_entries (gate_at s) (word s 2)
+
+  pub held_rules : length (held s).rules ≡ (counts_at s).rules
+  held_rules = length_entries (rule_at s) (word s 3)
+
+  pub held_wishes : length (held s).wishes ≡ (counts_at s).wishes
+  held_wishes = length_entries (wish_at s) (word s 4)
+
+  pub held_gate : (i : ℕ) → i < (counts_at s).gates → get_or (held s).gates i no_gate ≡ gate_of_words (gate_words_at s i)
+  held_gate i h = entries.entry_at (gate_at s) no_gate (word s 2) i h ∙ gate_by_words i
+
+  pub held_rule : (i : ℕ) → i < (counts_at s).rules → get_or (held s).rules i 0 ≡ rule_at s i
+  held_rule i h = entries.entry_at (rule_at s) 0 (word s 3) i h
+
+  pub held_wish : (i : ℕ) → i < (counts_at s).wishes → get_or (held s).wishes i [] ≡ clause_from (wish_words_at s i)
+  held_wish i h = entries.entry_at (wish_at s) [] (word s 4) i h ∙ wish_by_words i
+
+  -- ---- of a valid one the words stand for an entry, whose words they are
+  module _ (v : Valid (held s)) (i : ℕ) where
+    pub gate_kept : i < (counts_at s).gates → let w : List ℕ = gate_words_at s i in gate_words (gate_of_words w) ≡ word w 0 ∷ word w 1 ∷ word w 2 ∷ []
+    gate_kept h =
+        let g : scope.Gate = gate_of_words (gate_words_at s i) in
+        let at : (j : ℕ) → j < gate_size → word (gate_words g) j ≡ word (gate_words_at s i) j = λ j b. sym (gate_word (held s) v i j (omega (arith, held_gates)) b ∙ ap (λ x. word (gate_words x) j) (held_gate i h)) ∙ words_kept s v (Used.gate h b) ∙ sym (gate_word_at i j b) in
+        three_words (gate_words g) (gate_sized g) (at 0 (omega arith)) (at 1 (omega arith)) (at 2 (omega arith))
+
+    pub wish_kept : i < (counts_at s).wishes → let w : List ℕ = wish_words_at s i in wish_words (clause_from w) ≡ word w 0 ∷ word w 1 ∷ word w 2 ∷ []
+    wish_kept h =
+        let w : Clause = clause_from (wish_words_at s i) in
+        let at : (j : ℕ) → j < wish_size → word (wish_words w) j ≡ word (wish_words_at s i) j = λ j b. sym (wish_word (held s) v i j (omega (arith, held_wishes)) b ∙ ap (λ x. word (wish_words x) j) (held_wish i h)) ∙ words_kept s v (Used.wish h b) ∙ sym (wish_word_at i j b) in
+        three_words (wish_words w) (wish_sized w) (at 0 (omega arith)) (at 1 (omega arith)) (at 2 (omega arith))
+
+-- ---- a gate by the kind of its words
+module _ {k p q : ℕ} where
+  pub kind_not : (g : scope.Gate) → gate_words g ≡ k ∷ p ∷ q ∷ [] → k ≡ code "N" → scope.not p ≡ g
+  kind_not (scope.Gate.not a) e h = ap scope.not (sym (ap (λ l. word l 1) e))
+  kind_not (scope.Gate.and a b) e h = let n : code "A" ≡ k = ap (λ l. word l 0) e in absurd (omega arith)
+  kind_not (scope.Gate.or a b) e h = let n : code "O" ≡ k = ap (λ l. word l 0) e in absurd (omega arith)
+
+  pub kind_and : (g : scope.Gate) → gate_words g ≡ k ∷ p ∷ q ∷ [] → k ≡ code "A" → scope.and p q ≡ g
+  kind_and (scope.Gate.not a) e h = let n : code "N" ≡ k = ap (λ l. word l 0) e in absurd (omega arith)
+  kind_and (scope.Gate.and a b) e h = let l : a ≡ p = ap (λ l. word l 1) e in let r : b ≡ q = ap (λ l. word l 2) e in rw (l, r)
+  kind_and (scope.Gate.or a b) e h = let n : code "O" ≡ k = ap (λ l. word l 0) e in absurd (omega arith)
+
+  pub kind_or : (g : scope.Gate) → gate_words g ≡ k ∷ p ∷ q ∷ [] → k ≢ code "N" → k ≢ code "A" → scope.or p q ≡ g
+  kind_or (scope.Gate.not b) e n a = absurd (n (sym (ap (λ l. word l 0) e)))
+  kind_or (scope.Gate.and b c) e n a = absurd (a (sym (ap (λ l. word l 0) e)))
+  kind_or (scope.Gate.or b c) e n a = let l : b ≡ p = ap (λ l. word l 1) e in let r : c ≡ q = ap (λ l. word l 2) e in rw (l, r)
