@@ -1,6 +1,6 @@
 -- A part of a list that was written as a whole is as one written word by word.
 use Rattle.std.specs.Prelude.{ℕ, ◌+◌, ◌≤◌, List, ◌≡◌, length}
-use Rattle.std.proofs.Common.{arith, sym, ◌∙◌, append_assoc}
+use Rattle.std.proofs.Common.{arith, sym, append_assoc}
 use Rattle.std.proofs.Math.Seq.{drop-drop}
 use Rattle.std.proofs.lemmas.List.Edits.{sets, sets-eq}
 use borrow.Rule.Slice.PartMut.{put_mid}

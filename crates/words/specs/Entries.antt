@@ -1,5 +1,5 @@
 -- Entries as the code holds them, and what one more of them makes of the words of a sheet: in no promise of an exported call. Assumes nothing.
-use Rattle.std.specs.Prelude.{ℕ, ◌+◌, ◌≤◌, List, ◌≡◌, length}
+use Rattle.std.specs.Prelude.{ℕ, ◌≤◌, List, ◌≡◌, length}
 use Rattle.scope.specs.Sheet.{Sheet, sheet, number, Clause, most_gates, most_rules, most_wishes}
 use Rattle.scope.specs.Sheet as scope
 use Rattle.scope.specs.Causes.{add_gate, add_rule, add_wish}

@@ -1,11 +1,10 @@
 -- Each entry of the sheet that words hold, by its words; of a valid one the words are again those of the entry. Assumes nothing.
-use Rattle.std.specs.Prelude.{ℕ, ◌+◌, ◌*◌, ◌<◌, List, [], ◌∷◌, ◌≢◌, ◌≡◌, length, get_or, refl}
+use Rattle.std.specs.Prelude.{ℕ, ◌+◌, ◌*◌, ◌<◌, List, [], ◌∷◌, ◌≢◌, ◌≡◌, length, get_or}
 use Rattle.std.proofs.Common.{arith, sym, ap, ◌∙◌, get_or-take, get_or-drop}
 use Prim.Native.Char.{code}
 use Rattle.scope.specs.Sheet.{Clause, Among, Valid, points}
 use Rattle.scope.specs.Sheet as scope
-use Rattle.scope.specs.Words.{gate_size, wish_size, gates_from, wishes_from, word, no_gate, gate_of, clause_of, gate_words, wish_words, gate_at, rule_at, wish_at, held, Used}
-use Rattle.scope.proofs.Laws.Alls.{all_at}
+use Rattle.scope.specs.Words.{gate_size, wish_size, gates_from, wishes_from, word, no_gate, gate_words, wish_words, gate_at, rule_at, wish_at, held, Used}
 use Rattle.scope.proofs.Laws.Entries.{length_entries}
 use Rattle.scope.proofs.Laws.Entries as entries
 use Rattle.scope.proofs.Laws.Words.{gate_sized, wish_sized, gate_word, wish_word, words_kept}
