@@ -1,96 +1,92 @@
-// What may stand in the fields of a line: the tests of the scope, over the numbers of a line of n fields.
-ghost use Rattle.std.specs.Prelude.{◌≡◌, ◌&&◌, ◌≤◌, ◌<◌, drop};
-ghost use Rattle.scope.specs.Sheet.{most_literals};
+// What may stand in the fields of a line: the tests of the scope, over numbers.
+ghost use Rattle.std.specs.Prelude.{◌≡◌, ◌&&◌, ◌≤◌, length, take, drop};
+ghost use Rattle.scope.specs.Sheet.{most_switches, most_faults, most_literals};
 ghost use Rattle.scope.specs.Causes.{is, up_to, point, literal, zeros, literals, at};
 ghost use Rattle.field.specs.Columns.{number_from};
 ghost use Rattle.line.specs.Lines.{numbers_from};
 
 use field::Number;
-use line::line::{MOST_FIELDS, nth};
-use words::convert::both;
-use words::limit::MOST_LITERALS;
+use words::limit::{MOST_FAULTS, MOST_LITERALS, MOST_SWITCHES};
 
+// Whether x is k.
 pub fn is_number(x: Number, k: usize) -> bool
     ensures { result ≡ is k (number_from x) }
 {
-    let minus = x.minus;
-    let size = x.size as usize;
-    both(!minus, size == k)
+    !x.minus && x.size as usize == k
 }
 
-pub fn is_up_to(x: Number, m: u32) -> bool
+fn is_up_to(x: Number, m: u32) -> bool
     ensures { result ≡ up_to m (number_from x) }
 {
-    let minus = x.minus;
-    both(!minus, x.size <= m)
+    !x.minus && x.size <= m
+}
+
+// Whether the switches and the faults of a head are in their range.
+pub fn is_head(switches: Number, faults: Number) -> bool
+    ensures { result ≡ (up_to most_switches (number_from switches) && up_to most_faults (number_from faults)) }
+{
+    is_up_to(switches, MOST_SWITCHES) && is_up_to(faults, MOST_FAULTS)
 }
 
 fn is_point(x: Number, m: u32) -> bool
     ensures { result ≡ point m (number_from x) }
 {
-    both(is_up_to(x, m), 0 < x.size)
+    is_up_to(x, m) && 0 < x.size
 }
 
 fn is_literal(x: Number, a: u32) -> bool
     ensures { result ≡ literal a (number_from x) }
 {
-    both(x.size <= a, 0 < x.size)
+    x.size <= a && 0 < x.size
 }
 
-// Whether the fields from `from` on hold 0.
-pub fn unused(xs: [Number; MOST_FIELDS], from: usize, n: usize) -> bool
-    requires { (from ≤ n) × (n ≤ 4) }
-    ensures { result ≡ zeros (drop from (numbers_from n xs)) }
+// Whether these fields hold 0.
+pub fn are_unused(xs: &[Number]) -> bool
+    ensures { result ≡ zeros (numbers_from xs.now) }
 {
-    let mut i = from;
-    while i < n {
-        let zero = is_number(nth(xs, i, n), 0);
-        if !zero {
-            return false;
-        }
-        i += 1;
-    }
-    true
+    xs.iter().all(|x| is_number(*x, 0))
 }
 
 // Whether literals of a switches come first and zeros fill up.
-pub fn are_literals(xs: [Number; MOST_FIELDS], a: u32) -> bool
-    ensures { result ≡ literals a (numbers_from most_literals xs) }
+pub fn are_literals(xs: &[Number], a: u32) -> bool
+    ensures { result ≡ literals a (numbers_from xs.now) }
 {
-    let mut i = 0;
-    while i < MOST_LITERALS {
-        let x = nth(xs, i, MOST_LITERALS);
-        let zero = is_number(x, 0);
-        if zero {
-            let rest = i + 1;
-            return unused(xs, rest, MOST_LITERALS);
+    for (i, x) in xs.iter().enumerate() {
+        if is_number(*x, 0) {
+            return are_unused(&xs[i + 1..]);
         }
-        let known = is_literal(x, a);
-        if !known {
+        if !is_literal(*x, a) {
             return false;
         }
-        i += 1;
     }
     true
 }
 
-// One point of m, and nothing else.
-pub fn one_point(xs: [Number; MOST_FIELDS], m: u32, n: usize) -> bool
-    requires { (3 ≤ n) × (n ≤ 4) }
-    ensures { result ≡ (point m (at (numbers_from n xs) 0) && zeros (drop 1 (numbers_from n xs))) }
+// The literals of a wish, and nothing else.
+pub fn is_wish(xs: &[Number], a: u32) -> bool
+    requires { 3 ≤ length xs.now }
+    ensures { result ≡ (literals a (take most_literals (numbers_from xs.now)) && zeros (drop most_literals (numbers_from xs.now))) }
 {
-    let first = is_point(nth(xs, 0, n), m);
-    let rest = unused(xs, 1, n);
-    both(first, rest)
+    let (first, rest) = xs.split_at(MOST_LITERALS);
+    are_literals(first, a) && are_unused(rest)
+}
+
+// One point of m, and nothing else.
+pub fn is_one_point(xs: &[Number], m: u32) -> bool
+    ensures { result ≡ (point m (at (numbers_from xs.now) 0) && zeros (drop 1 (numbers_from xs.now))) }
+{
+    match xs {
+        [x, rest @ ..] => is_point(*x, m) && are_unused(rest),
+        [] => false,
+    }
 }
 
 // Two points of m, and nothing else.
-pub fn two_points(xs: [Number; MOST_FIELDS], m: u32, n: usize) -> bool
-    requires { (3 ≤ n) × (n ≤ 4) }
-    ensures { result ≡ ((point m (at (numbers_from n xs) 0) && point m (at (numbers_from n xs) 1)) && zeros (drop 2 (numbers_from n xs))) }
+pub fn are_two_points(xs: &[Number], m: u32) -> bool
+    ensures { result ≡ ((point m (at (numbers_from xs.now) 0) && point m (at (numbers_from xs.now) 1)) && zeros (drop 2 (numbers_from xs.now))) }
 {
-    let first = is_point(nth(xs, 0, n), m);
-    let second = is_point(nth(xs, 1, n), m);
-    let rest = unused(xs, 2, n);
-    both(both(first, second), rest)
+    match xs {
+        [x, y, rest @ ..] => is_point(*x, m) && is_point(*y, m) && are_unused(rest),
+        _ => false,
+    }
 }

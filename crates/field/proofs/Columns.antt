@@ -4,49 +4,47 @@ use Prim.Native.Char.{code}
 use native.Mathlib.Nat.{pow-suc, add-zero, zero-add, suc-add}
 use native.Mathlib.Numerals.{add-one}
 use native.Mathlib.Omega.{arith}
-use mathlib.Core.Bool.{Bool, true, false, ◌&&◌}
+use mathlib.Core.Bool.{Bool, true, false, cond, ◌&&◌}
 use mathlib.Core.List.{List, [], ◌∷◌, ◌++◌, append_assoc, append-nil}
-use mathlib.Core.Logic.{◌↔◌, ◌≢◌}
-use mathlib.Core.Option.{Option, none, some, none-ne-some}
+use mathlib.Core.Logic.{◌↔◌, ◌≢◌, ◌⊎◌, inl, inr}
+use mathlib.Core.Option as math
+use mathlib.Core.Option.{none-ne-some}
 use mathlib.Core.Path.{◌≡◌, refl, sym, ap, ap₂, ◌∙◌}
 use lib.Dec.{eqb, leb, ltb}
-use lib.ListN.{length, get_or, take, drop, length-append, length-drop, take-append-drop}
-use lib.Seq.{take-suc, take_all, length-take-le, get_or-take, get_or-drop}
+use lib.ListN.{length, get_or, take, drop, drop_of_length-le, length-append, length-drop, take-append-drop}
+use lib.Seq.{take-suc, take_all, length-take-le}
 use borrow.Author.Tests.{eqb-true, eqb-false, ne_eqb, lt-ltb, le-leb, leb-true}
+use Rattle.std.specs.Prelude.{Option, Some, None, Err}
 use Rattle.scope.specs.Sheet.{number, field_size, digit, decimal, signed, field, fits}
 use Rattle.scope.specs.Sheet as scope
 use Rattle.scope.specs.Reading.{full, formed, field_of, field_begins, Stop}
 use Rattle.scope.proofs.Laws.Tests.{both, clash, same_some}
-use Rattle.scope.proofs.Laws.Lists.{length_snoc, part_length}
 use Rattle.scope.proofs.Laws.Fields.{by_digits, length_field, Fitting, fitting, field_iff}
 use Rattle.scope.proofs.Laws.Digits.{spaces, spaces_snoc, zero_shown, columns_of, Shown, shown_field, Part, part_digit, shown_part, spaces_part, blank_part}
 use Rattle.scope.proofs.Laws.Beginnings.{part_begins, field_begins_lem}
 use Rattle.field.specs.declared.Scan.{Scan}
-use Rattle.field.specs.declared.Scan.TheVariants.{Blank, Minus, Number, Bad}
-use Rattle.field.specs.Columns.{pick, with_digit, unless_last, next, walk, bad, found, field_from, FieldRead}
-use Rattle.field.specs.declared.Field.{Field}
+use Rattle.field.specs.declared.Scan.TheVariants.{Blank, Minus, Number}
+use Rattle.field.specs.Columns.{with_digit, next, step, walk, FieldRead}
 
 -- ---- what a walk has read
 
 -- p is read, and `left` columns come after
-data Seen (p : List ℕ) (left : ℕ) : Scan → Type 0 where
-  blank : (k : ℕ) → p ≡ spaces k → 0 < left → Seen p left Blank
-  minus : (k : ℕ) → p ≡ spaces k ++ code "-" ∷ [] → 0 < left → Seen p left Minus
-  alone : (k : ℕ) → p ≡ spaces k ++ code "0" ∷ [] → left ≡ 0 → Seen p left (Number false 0)
-  shown : {m : Bool} {n : ℕ} → Shown m n p → Seen p left (Number m n)
-  lost : Seen p left Bad
+data Seen (p : List ℕ) (left : ℕ) : Option Scan → Type 0 where
+  blank : (k : ℕ) → p ≡ spaces k → Seen p left (Some Blank)
+  minus : (k : ℕ) → p ≡ spaces k ++ code "-" ∷ [] → Seen p left (Some Minus)
+  alone : (k : ℕ) → p ≡ spaces k ++ code "0" ∷ [] → left ≡ 0 → Seen p left (Some (Number false 0))
+  shown : {m : Bool} {n : ℕ} → Shown m n p → Seen p left (Some (Number m n))
+  lost : Seen p left None
 
-by : {p : List ℕ} {left : ℕ} (t : Bool) {x y : Scan} → (t ≡ true → Seen p left x) → (t ≡ false → Seen p left y) → Seen p left (pick t x y)
-unfolding pick
+by : {p : List ℕ} {left : ℕ} (t : Bool) {x y : Option Scan} → (t ≡ true → Seen p left x) → (t ≡ false → Seen p left y) → Seen p left (cond t x y)
 by true f g = f refl
 by false f g = g refl
 
 module _ (p : List ℕ) (b left : ℕ) where
   seen_digit : (m : Bool) (n : ℕ) → Part m n p → (code "0" ≤ b → 0 < n * 10 + (b - code "0")) → Seen (p ++ b ∷ []) left (with_digit m n b)
-  unfolding with_digit
   seen_digit m n h pos = by (ltb n 10000 && (leb (code "0") b && leb b (code "9"))) fine (λ t. lost)
     where
-      fine : (ltb n 10000 && (leb (code "0") b && leb b (code "9"))) ≡ true → Seen (p ++ b ∷ []) left (Number m (n * 10 + (b - code "0")))
+      fine : (ltb n 10000 && (leb (code "0") b && leb b (code "9"))) ≡ true → Seen (p ++ b ∷ []) left (Some (Number m (n * 10 + (b - code "0"))))
       fine t =
           let (_, u) = both (ltb n 10000) (leb (code "0") b && leb b (code "9")) t in
           let (v, w) = both (leb (code "0") b) (leb b (code "9")) u in
@@ -58,235 +56,210 @@ module _ (p : List ℕ) (b left : ℕ) where
   not_zero : eqb b (code "0") ≡ false → code "0" ≤ b → 0 < 0 * 10 + (b - code "0")
   not_zero t l = omega (arith, eqb-false b (code "0") t)
 
-  more_left : eqb left 0 ≡ false → 0 < left
-  more_left z = omega (arith, eqb-false left 0 z)
-
-  seen_next : (st : Scan) → Seen p (suc left) st → Seen (p ++ b ∷ []) left (next st b left)
-  unfolding next unless_last
-  seen_next Blank (blank k e l) =
-      by (eqb b (code " ")) (λ t. by (eqb left 0) (λ z. lost) (λ z. blank (suc k) (begun (code " ") t ∙ spaces_snoc k) (more_left z))) (λ _.
-      by (eqb b (code "-")) (λ t. by (eqb left 0) (λ z. lost) (λ z. minus k (begun (code "-") t) (more_left z))) (λ _.
+  seen_next : (o : Option Scan) → Seen p (suc left) o → Seen (p ++ b ∷ []) left (step o b left)
+  seen_next (Some Blank) (blank k e) =
+      by (eqb b (code " ")) (λ t. blank (suc k) (begun (code " ") t ∙ spaces_snoc k)) (λ _.
+      by (eqb b (code "-")) (λ t. minus k (begun (code "-") t)) (λ _.
       by (eqb b (code "0")) (λ t. by (eqb left 0) (λ z. alone k (begun (code "0") t) (eqb-true left 0 z)) (λ z. lost)) (λ t.
       seen_digit false 0 (blank_part k p e) (not_zero t))))
     where
       begun : (a : ℕ) → eqb b a ≡ true → p ++ b ∷ [] ≡ spaces k ++ a ∷ []
       begun a t = ap₂ (λ s c. s ++ c ∷ []) e (eqb-true b a t)
-  seen_next Minus (minus k e l) = by (eqb b (code "0")) (λ t. lost) (λ t. seen_digit true 0 (spaces_part k true p e) (not_zero t))
-  seen_next (Number m n) (alone k e z) = absurd (omega arith)
-  seen_next (Number m n) (shown h) = seen_digit m n (shown_part m n p h) (λ l. omega (arith, h.some))
-  seen_next Bad lost = lost
+  seen_next (Some Minus) (minus k e) = by (eqb b (code "0")) (λ t. lost) (λ t. seen_digit true 0 (spaces_part k true p e) (not_zero t))
+  seen_next (Some (Number m n)) (alone k e z) = absurd (omega arith)
+  seen_next (Some (Number m n)) (shown h) = seen_digit m n (shown_part m n p h) (λ l. omega (arith, h.some))
+  seen_next None lost = lost
 
-seen_walk : (s p : List ℕ) (left : ℕ) (st : Scan) → Seen p (length s + left) st → Seen (p ++ s) left (walk st s left)
+seen_walk : (s p : List ℕ) (left : ℕ) (o : Option Scan) → Seen p (length s + left) o → Seen (p ++ s) left (walk o s left)
 unfolding walk
-seen_walk [] p left st h = rw append-nil (rw zero-add at h)
-seen_walk (b ∷ s) p left st h = rw append_assoc at (seen_walk s (p ++ b ∷ []) left (next st b (length s + left)) (seen_next p b (length s + left) st (rw suc-add at h)))
+seen_walk [] p left o h = rw append-nil (rw zero-add at h)
+seen_walk (b ∷ s) p left o h = rw append_assoc at (seen_walk s (p ++ b ∷ []) left (step o b (length s + left)) (seen_next p b (length s + left) o (rw suc-add at h)))
 
-seen : (p : List ℕ) (left : ℕ) → 0 < length p + left → Seen p left (walk Blank p left)
-seen p left h = seen_walk p [] left Blank (blank 0 refl h)
+-- what the columns hold from the first on
+abbrev read : List ℕ → ℕ → Option Scan
+read p left = walk (Some Blank) p left
+
+seen : (p : List ℕ) (left : ℕ) → Seen p left (read p left)
+seen p left = seen_walk p [] left (Some Blank) (blank 0 refl)
 
 -- ---- five columns that hold a number
 
-seen_field : (p : List ℕ) (m : Bool) (n : ℕ) → length p ≡ field_size → Seen p 0 (Number m n) → (p ≡ field (number m n)) × (fits (number m n) ≡ true)
+seen_field : (p : List ℕ) (m : Bool) (n : ℕ) → length p ≡ field_size → Seen p 0 (Some (Number m n)) → (p ≡ field (number m n)) × (fits (number m n) ≡ true)
 unfolding field
 seen_field p m n l (alone k e z) = (rw zero_shown (columns_of p l k (code "0" ∷ []) e).0, refl)
 seen_field p m n l (shown h) = shown_field p l m n h
 
-walk_sound : (s : List ℕ) (m : Bool) (n : ℕ) → length s ≡ field_size → walk Blank s 0 ≡ Number m n → field_of s ≡ some (number m n)
-walk_sound s m n l e = (field_iff s (number m n)).1 (seen_field s m n l (rw e at (seen s 0 (omega arith))))
+read_sound : (s : List ℕ) (m : Bool) (n : ℕ) → length s ≡ field_size → read s 0 ≡ Some (Number m n) → field_of s ≡ math.some (number m n)
+read_sound s m n l e = (field_iff s (number m n)).1 (seen_field s m n l (rw e at (seen s 0)))
 
 -- ---- what is printed is read
 
-not_last : (left : ℕ) (st : Scan) → 0 < left → unless_last left st ≡ st
-unfolding unless_last pick
-not_last left st h = rw (ne_eqb left 0 (λ e. omega arith))
+walk_spaces : (k : ℕ) (r : List ℕ) → read (spaces k ++ r) 0 ≡ read r 0
+unfolding walk
+walk_spaces zero r = refl
+walk_spaces (suc k) r = walk_spaces k r
 
-walk_spaces : (k : ℕ) (r : List ℕ) → 0 < length r → walk Blank (spaces k ++ r) 0 ≡ walk Blank r 0
-unfolding walk next pick
-walk_spaces zero r h = refl
-walk_spaces (suc k) r h = ap (λ st. walk st (spaces k ++ r) 0) (not_last (length (spaces k ++ r) + 0) Blank (omega (arith, length-append (spaces k) r))) ∙ walk_spaces k r h
-
-next_digit : (m : Bool) (n d : ℕ) → n < 10000 → d < 10 → with_digit m n (digit d) ≡ Number m (n * 10 + d)
-unfolding with_digit pick
+next_digit : (m : Bool) (n d : ℕ) → n < 10000 → d < 10 → with_digit m n (digit d) ≡ Some (Number m (n * 10 + d))
 next_digit m n d h g =
     let e : digit d - code "0" ≡ d = omega arith in
     rw (lt-ltb n 10000 h, le-leb (code "0") (digit d) (omega arith), le-leb (digit d) (code "9") (omega arith), e)
 
 -- where a number of one digit is read, one of more is
-module _ (st : Scan) (m : Bool) (one : (d left : ℕ) → 0 < d → d < 10 → next st (digit d) left ≡ Number m d) where
-  walk_digits : (w n : ℕ) (r : List ℕ) → 0 < n → n < 10 ^ w → n < 100000 → walk st (decimal w n ++ r) 0 ≡ walk (Number m n) r 0
-  unfolding walk next
+module _ (st : Scan) (m : Bool) (one : (d left : ℕ) → 0 < d → d < 10 → next st (digit d) left ≡ Some (Number m d)) where
+  walk_digits : (w n : ℕ) (r : List ℕ) → 0 < n → n < 10 ^ w → n < 100000 → walk (Some st) (decimal w n ++ r) 0 ≡ walk (Some (Number m n)) r 0
+  unfolding walk
   walk_digits zero n r pos h g = absurd (omega arith)
-  walk_digits (suc w) n r pos h g = by_digits (λ ds. walk st (ds ++ r) 0 ≡ walk (Number m n) r 0) w n
+  walk_digits (suc w) n r pos h g = by_digits (λ ds. walk (Some st) (ds ++ r) 0 ≡ walk (Some (Number m n)) r 0) w n
       (λ l. ap (λ q. walk q r 0) (one n (length r + 0) pos l))
-      (λ l. ap (λ s. walk st s 0) (append_assoc (decimal w (n / 10)) (digit (n % 10) ∷ []) r) ∙ walk_digits w (n / 10) (digit (n % 10) ∷ r) (omega arith) (omega (arith, pow-suc 10 w)) (omega arith) ∙ ap (λ q. walk q r 0) (next_digit m (n / 10) (n % 10) (omega arith) (omega arith) ∙ ap (Number m) (omega arith)))
+      (λ l. ap (λ s. walk (Some st) s 0) (append_assoc (decimal w (n / 10)) (digit (n % 10) ∷ []) r) ∙ walk_digits w (n / 10) (digit (n % 10) ∷ r) (omega arith) (omega (arith, pow-suc 10 w)) (omega arith) ∙ ap (λ q. walk q r 0) (next_digit m (n / 10) (n % 10) (omega arith) (omega arith) ∙ ap (λ k. Some (Number m k)) (omega arith)))
 
-after_spaces : (d left : ℕ) → 0 < d → d < 10 → next Blank (digit d) left ≡ Number false d
-unfolding next pick
-after_spaces d left h g = rw (ne_eqb (digit d) (code " ") (λ e. omega arith), ne_eqb (digit d) (code "-") (λ e. omega arith), ne_eqb (digit d) (code "0") (λ e. omega arith)) (next_digit false 0 d (omega arith) g ∙ ap (Number false) (omega arith))
+after_spaces : (d left : ℕ) → 0 < d → d < 10 → next Blank (digit d) left ≡ Some (Number false d)
+after_spaces d left h g = rw (ne_eqb (digit d) (code " ") (λ e. omega arith), ne_eqb (digit d) (code "-") (λ e. omega arith), ne_eqb (digit d) (code "0") (λ e. omega arith)) (next_digit false 0 d (omega arith) g ∙ ap (λ k. Some (Number false k)) (omega arith))
 
-after_minus : (d left : ℕ) → 0 < d → d < 10 → next Minus (digit d) left ≡ Number true d
-unfolding next pick
-after_minus d left h g = rw (ne_eqb (digit d) (code "0") (λ e. omega arith)) (next_digit true 0 d (omega arith) g ∙ ap (Number true) (omega arith))
+after_minus : (d left : ℕ) → 0 < d → d < 10 → next Minus (digit d) left ≡ Some (Number true d)
+after_minus d left h g = rw (ne_eqb (digit d) (code "0") (λ e. omega arith)) (next_digit true 0 d (omega arith) g ∙ ap (λ k. Some (Number true k)) (omega arith))
 
-some_digits : (w n : ℕ) → 0 < length (decimal (suc w) n)
-some_digits w n = by_digits (λ ds. 0 < length ds) w n (λ l. omega arith) (λ l. omega (arith, length_snoc (decimal w (n / 10)) (digit (n % 10))))
-
-walk_ends : (st : Scan) (m : Bool) (n : ℕ) → walk st (decimal field_size n ++ []) 0 ≡ walk (Number m n) [] 0 → walk st (decimal field_size n) 0 ≡ Number m n
+walk_ends : (st : Scan) (m : Bool) (n : ℕ) → walk (Some st) (decimal field_size n ++ []) 0 ≡ walk (Some (Number m n)) [] 0 → walk (Some st) (decimal field_size n) 0 ≡ Some (Number m n)
 unfolding walk
 walk_ends st m n e = rw append-nil at e
 
-walk_plain : (n : ℕ) → Fitting false n → walk Blank (decimal field_size n) 0 ≡ Number false n
-unfolding walk next pick
+walk_plain : (n : ℕ) → Fitting false n → read (decimal field_size n) 0 ≡ Some (Number false n)
+unfolding walk
 walk_plain n f = go (eqb n 0) refl
   where
-    go : (t : Bool) → eqb n 0 ≡ t → walk Blank (decimal field_size n) 0 ≡ Number false n
+    go : (t : Bool) → eqb n 0 ≡ t → read (decimal field_size n) 0 ≡ Some (Number false n)
     go true z = rw (eqb-true n 0 z, zero_shown)
     go false z = let p : n ≢ 0 = eqb-false n 0 z in walk_ends Blank false n (walk_digits Blank false after_spaces field_size n [] (omega arith) f.small f.small)
 
-walk_minus : (n : ℕ) → Fitting true n → walk Blank (code "-" ∷ decimal field_size n) 0 ≡ Number true n
-unfolding walk next pick
-walk_minus n f = ap (λ st. walk st (decimal field_size n) 0) (not_last (length (decimal field_size n) + 0) Minus (omega (arith, some_digits 4 n))) ∙ walk_ends Minus true n (walk_digits Minus true after_minus field_size n [] (f.signed refl).0 f.small f.small)
+walk_minus : (n : ℕ) → Fitting true n → read (code "-" ∷ decimal field_size n) 0 ≡ Some (Number true n)
+unfolding walk
+walk_minus n f = walk_ends Minus true n (walk_digits Minus true after_minus field_size n [] (f.signed refl).0 f.small f.small)
 
-walk_field : (x : scope.Number) → fits x ≡ true → walk Blank (field x) 0 ≡ Number x.minus x.size
+read_field : (x : scope.Number) → fits x ≡ true → read (field x) 0 ≡ Some (Number x.minus x.size)
 unfolding field
-walk_field x h = go x.minus x.size (fitting x h)
+read_field x h = go x.minus x.size (fitting x h)
   where
-    go : (m : Bool) (n : ℕ) → Fitting m n → walk Blank (field (number m n)) 0 ≡ Number m n
-    go true n f = walk_spaces (field_size - length (signed true (decimal field_size n))) (signed true (decimal field_size n)) (omega arith) ∙ walk_minus n f
-    go false n f = walk_spaces (field_size - length (decimal field_size n)) (decimal field_size n) (some_digits 4 n) ∙ walk_plain n f
+    go : (m : Bool) (n : ℕ) → Fitting m n → read (field (number m n)) 0 ≡ Some (Number m n)
+    go true n f = walk_spaces (field_size - length (signed true (decimal field_size n))) (signed true (decimal field_size n)) ∙ walk_minus n f
+    go false n f = walk_spaces (field_size - length (decimal field_size n)) (decimal field_size n) ∙ walk_plain n f
 
 -- ---- five bytes are the columns of a number exactly if the walk finds it
 
-found_number : (st : Scan) (x : scope.Number) → found st ≡ some x → st ≡ Number x.minus x.size
-found_number Blank x e = absurd (none-ne-some x e)
-found_number Minus x e = absurd (none-ne-some x e)
-found_number (Number m n) x e = cc
-found_number Bad x e = absurd (none-ne-some x e)
+found : Option Scan → math.Option scope.Number
+found (Some (Number m n)) = math.some (number m n)
+found (Some Blank) = math.none
+found (Some Minus) = math.none
+found None = math.none
 
-walk_iff : (s : List ℕ) (x : scope.Number) → length s ≡ field_size → (found (walk Blank s 0) ≡ some x) ↔ (field_of s ≡ some x)
-walk_iff s x l = (to, back)
+found_number : (o : Option Scan) (x : scope.Number) → found o ≡ math.some x → o ≡ Some (Number x.minus x.size)
+unfolding found
+found_number (Some Blank) x e = absurd (none-ne-some x e)
+found_number (Some Minus) x e = absurd (none-ne-some x e)
+found_number (Some (Number m n)) x e = cc
+found_number None x e = absurd (none-ne-some x e)
+
+read_iff : (s : List ℕ) (x : scope.Number) → length s ≡ field_size → (found (read s 0) ≡ math.some x) ↔ (field_of s ≡ math.some x)
+unfolding found
+read_iff s x l = (to, back)
   where
-    to : found (walk Blank s 0) ≡ some x → field_of s ≡ some x
-    to e = walk_sound s x.minus x.size l (found_number (walk Blank s 0) x e)
+    to : found (read s 0) ≡ math.some x → field_of s ≡ math.some x
+    to e = read_sound s x.minus x.size l (found_number (read s 0) x e)
 
-    back : field_of s ≡ some x → found (walk Blank s 0) ≡ some x
-    back e = let (w, f) = (field_iff s x).0 e in ap found (ap (λ t. walk Blank t 0) w ∙ walk_field x f)
+    back : field_of s ≡ math.some x → found (read s 0) ≡ math.some x
+    back e = let (w, f) = (field_iff s x).0 e in ap found (ap (λ t. read t 0) w ∙ read_field x f)
 
-walk_found : (s : List ℕ) → length s ≡ field_size → found (walk Blank s 0) ≡ field_of s
-walk_found s l = same_some (found (walk Blank s 0)) (field_of s) (λ x. (walk_iff s x l).0) (λ x. (walk_iff s x l).1)
+read_found : (s : List ℕ) → length s ≡ field_size → found (read s 0) ≡ field_of s
+read_found s l = same_some (found (read s 0)) (field_of s) (λ x. (read_iff s x l).0) (λ x. (read_iff s x l).1)
 
 -- ---- where a walk goes bad
 
-walk_append : (p s : List ℕ) (left : ℕ) (st : Scan) → walk st (p ++ s) left ≡ walk (walk st p (length s + left)) s left
+walk_append : (p s : List ℕ) (left : ℕ) (o : Option Scan) → walk o (p ++ s) left ≡ walk (walk o p (length s + left)) s left
 unfolding walk
-walk_append [] s left st = refl
-walk_append (b ∷ p) s left st = let e : length (p ++ s) + left ≡ length p + (length s + left) = omega (arith, length-append p s) in ap (λ i. walk (next st b i) (p ++ s) left) e ∙ walk_append p s left (next st b (length p + (length s + left)))
+walk_append [] s left o = refl
+walk_append (b ∷ p) s left o = let e : length (p ++ s) + left ≡ length p + (length s + left) = omega (arith, length-append p s) in ap (λ i. walk (step o b i) (p ++ s) left) e ∙ walk_append p s left (step o b (length p + (length s + left)))
 
-walk_bad : (s : List ℕ) (left : ℕ) → walk Bad s left ≡ Bad
-unfolding walk next
-walk_bad [] left = refl
-walk_bad (b ∷ s) left = walk_bad s left
-
-is_bad : (st : Scan) → bad st ≡ true → st ≡ Bad
-is_bad Blank e = clash e refl
-is_bad Minus e = clash e refl
-is_bad (Number m n) e = clash e refl
-is_bad Bad e = refl
+walk_lost : (s : List ℕ) (left : ℕ) → walk None s left ≡ None
+unfolding walk
+walk_lost [] left = refl
+walk_lost (b ∷ s) left = walk_lost s left
 
 -- what is read so far begins a field
-good_part : (p : List ℕ) (left : ℕ) (st : Scan) → 0 < left → Seen p left st → bad st ≡ false → (m : Bool) × (n : ℕ) × Part m n p
-good_part p left Blank l (blank k e h) g = (false, 0, blank_part k p e)
-good_part p left Minus l (minus k e h) g = (true, 0, spaces_part k true p e)
-good_part p left (Number m n) l (alone k e z) g = absurd (omega arith)
-good_part p left (Number m n) l (shown h) g = (m, n, shown_part m n p h)
-good_part p left Bad l h g = clash refl g
+good_part : (p : List ℕ) (left : ℕ) (st : Scan) → 0 < left → Seen p left (Some st) → (m : Bool) × (n : ℕ) × Part m n p
+good_part p left Blank l (blank k e) = (false, 0, blank_part k p e)
+good_part p left Minus l (minus k e) = (true, 0, spaces_part k true p e)
+good_part p left (Number m n) l (alone k e z) = absurd (omega arith)
+good_part p left (Number m n) l (shown h) = (m, n, shown_part m n p h)
 
 module _ (p : List ℕ) (left : ℕ) (l : length p + left ≡ field_size) where
-  good_begins : 0 < left → bad (walk Blank p left) ≡ false → field_begins p ≡ true
-  good_begins h g = let (m, n, b) = good_part p left (walk Blank p left) h (seen p left (omega arith)) g in part_begins m n p b (omega arith)
+  good_begins : (st : Scan) → 0 < left → read p left ≡ Some st → field_begins p ≡ true
+  good_begins st h g = let (m, n, b) = good_part p left st h (rw g at (seen p left)) in part_begins m n p b (omega arith)
 
-  bad_begins : bad (walk Blank p left) ≡ true → field_begins p ≡ false
-  bad_begins g =
+  lost_begins : read p left ≡ None → field_begins p ≡ false
+  unfolding found
+  lost_begins g =
       let r : List ℕ = drop (length p) (field full) in
       let i : length r ≡ left = omega (arith, length-drop (length p) (field full), length_field full refl) in
-      let e : walk Blank (p ++ r) 0 ≡ Bad = walk_append p r 0 Blank ∙ ap (λ st. walk st r 0) (ap (walk Blank p) (add-zero (length r) ∙ i) ∙ is_bad (walk Blank p left) g) ∙ walk_bad r 0 in
-      ap formed (sym (walk_found (p ++ r) (omega (arith, length-append p r))) ∙ ap found e)
-
--- and at the end it is a number
-good_number : (t : List ℕ) → length t ≡ field_size → bad (walk Blank t 0) ≡ false → formed (found (walk Blank t 0)) ≡ true
-good_number t l g = go (walk Blank t 0) (seen t 0 (omega arith)) g
-  where
-    go : (st : Scan) → Seen t 0 st → bad st ≡ false → formed (found st) ≡ true
-    go Blank (blank k e h) g = absurd (omega arith)
-    go Minus (minus k e h) g = absurd (omega arith)
-    go (Number m n) h g = refl
-    go Bad h g = clash refl g
+      let e : read (p ++ r) 0 ≡ None = walk_append p r 0 (Some Blank) ∙ ap (λ o. walk o r 0) (ap (read p) (add-zero (length r) ∙ i) ∙ g) ∙ walk_lost r 0 in
+      ap formed (sym (read_found (p ++ r) (omega (arith, length-append p r))) ∙ ap found e)
 
 -- columns that stop are no number's
-stop_none : (t : List ℕ) (c : ℕ) → Stop field_begins t c → field_of t ≡ none
+stop_none : (t : List ℕ) (c : ℕ) → Stop field_begins t c → field_of t ≡ math.none
 stop_none t c (p, q) = go (field_of t) refl
   where
-    go : (o : Option scope.Number) → field_of t ≡ o → o ≡ none
-    go none e = refl
-    go (some x) e = let (d, f) = (field_iff t x).0 e in clash (field_begins_lem x (take c t) (drop c t) f (sym d ∙ sym (take-append-drop c t))) q
+    go : (o : math.Option scope.Number) → field_of t ≡ o → o ≡ math.none
+    go math.none e = refl
+    go (math.some x) e = let (d, f) = (field_iff t x).0 e in clash (field_begins_lem x (take c t) (drop c t) f (sym d ∙ sym (take-append-drop c t))) q
 
--- ---- from a place in a slice
+-- ---- one column after another
 
--- columns i of those from `at` are read, and st is what they hold
-pub record Reached (s : List ℕ) (at i : ℕ) (st : Scan) : Type 0 where
-  pub within : i ≤ field_size
-  pub state : st ≡ walk Blank (take i (take field_size (drop at s))) (field_size - i)
-  pub good : bad st ≡ false
-
-pub begun : (s : List ℕ) (at : ℕ) → Reached s at 0 Blank
-unfolding walk
-begun s at = record { within = omega arith; state = refl; good = refl }
-
-module _ (s : List ℕ) (at : ℕ) (l : at + field_size ≤ length s) where
-  abbrev t : List ℕ
-  t = take field_size (drop at s)
-
-  five : length t ≡ field_size
-  five = part_length s at field_size l
-
+module _ (t : List ℕ) (five : length t ≡ field_size) where
   -- one column more
-  module _ (i : ℕ) (st : Scan) (h : Reached s at i st) (b : i < field_size) where
-    left_after : length (take (i + 1) t) + (field_size - (i + 1)) ≡ field_size
-    left_after = omega (arith, length-take-le (i + 1) t (omega (arith, five)))
-
-    next_state : next st (get_or s (at + i) 0) (field_size - 1 - i) ≡ walk Blank (take (i + 1) t) (field_size - (i + 1))
+  module _ (i : ℕ) (st : Scan) (h : Some st ≡ read (take i t) (field_size - i)) (b : i < field_size) where
+    pub next_state : (c : ℕ) → c ≡ get_or t i 0 → next st c (field_size - 1 - i) ≡ read (take (i + 1) t) (field_size - (i + 1))
     unfolding walk
-    next_state =
-        let c : ℕ = get_or s (at + i) 0 in
-        let e : get_or t i 0 ≡ c = get_or-take field_size (drop at s) i 0 b ∙ get_or-drop at s i 0 in
-        let a : take (i + 1) t ≡ take i t ++ c ∷ [] = ap (λ j. take j t) (add-one i) ∙ take-suc t i 0 (omega (arith, five)) ∙ ap (λ x. take i t ++ x ∷ []) e in
+    next_state c e =
+        let a : take (i + 1) t ≡ take i t ++ c ∷ [] = ap (λ j. take j t) (add-one i) ∙ take-suc t i 0 (omega (arith, five)) ∙ ap (λ x. take i t ++ x ∷ []) (sym e) in
         let f : field_size - i ≡ 1 + (field_size - (i + 1)) = omega arith in
         let g : field_size - 1 - i ≡ 0 + (field_size - (i + 1)) = omega arith in
-        ap₂ (λ q j. next q c j) (h.state ∙ ap (walk Blank (take i t)) f) g ∙ sym (ap (λ r. walk Blank r (field_size - (i + 1))) a ∙ walk_append (take i t) (c ∷ []) (field_size - (i + 1)) Blank)
+        ap₂ (λ q j. step q c j) (h ∙ ap (read (take i t)) f) g ∙ sym (ap (λ r. read r (field_size - (i + 1))) a ∙ walk_append (take i t) (c ∷ []) (field_size - (i + 1)) (Some Blank))
 
-    -- q is what they hold with it
-    module _ (q : Scan) (e : q ≡ next st (get_or s (at + i) 0) (field_size - 1 - i)) {lost : Bool} (f : lost ≡ bad q) where
-      pub onward : lost ≡ false → Reached s at (i + 1) q
-      onward g = record { within = omega arith; state = e ∙ next_state; good = sym f ∙ g }
-
-      stops : lost ≡ true → Stop field_begins t (i + 1)
-      stops g =
-          let z : i + 1 - 1 ≡ i = omega arith in (
-            rw z (good_begins (take i t) (field_size - i) (omega (arith, length-take-le i t (omega (arith, five)))) (omega arith) (rw h.state at h.good)),
-            bad_begins (take (i + 1) t) (field_size - (i + 1)) left_after (rw (e ∙ next_state) at (sym f ∙ g)),
-          )
-
-      pub stopped : lost ≡ true → (r : Field) → r.column ≡ i + 1 → FieldRead t r
-      unfolding field_from
-      stopped g r c =
-          let w : Stop field_begins t (i + 1) = stops g in
-          record { number = rw (c, ne_eqb (i + 1) 0 (λ z. omega arith)) (sym (stop_none t (i + 1) w)); within = omega arith; stops = λ z. rw c w }
+    pub stopped : (c : ℕ) → c ≡ get_or t i 0 → next st c (field_size - 1 - i) ≡ None → FieldRead t (Err (record { column = i + 1 }))
+    stopped c e g =
+        let z : i + 1 - 1 ≡ i = omega arith in
+        let w : Stop field_begins t (i + 1) = (
+          rw z (good_begins (take i t) (field_size - i) (omega (arith, length-take-le i t (omega (arith, five)))) st (omega arith) (sym h)),
+          lost_begins (take (i + 1) t) (field_size - (i + 1)) (omega (arith, length-take-le (i + 1) t (omega (arith, five)))) (sym (next_state c e) ∙ g),
+        ) in
+        (stop_none t (i + 1) w, omega arith, w)
 
   -- all five
-  pub ended : (i : ℕ) (st : Scan) → Reached s at i st → field_size ≤ i → (r : Field) → (field_from r ≡ found st) × (r.column ≤ field_size) → FieldRead t r
-  unfolding field_from
-  ended i st h b r (f, w) =
-      let z : i ≡ field_size = omega (arith, h.within) in
-      let e : st ≡ walk Blank t 0 = h.state ∙ ap (λ j. walk Blank (take j t) (field_size - j)) z ∙ ap (λ r. walk Blank r 0) (take_all field_size t (omega (arith, five))) in
-      let g : formed (field_from r) ≡ true = ap formed (f ∙ ap found e) ∙ good_number t five (rw e at h.good) in
-      record { number = f ∙ ap found e ∙ walk_found t five; within = w; stops = λ n. clash g (rw (ne_eqb r.column 0 n)) }
+  module _ (i : ℕ) (st : Scan) (h : Some st ≡ read (take i t) (field_size - i)) (all : i ≡ field_size) where
+    whole : read t 0 ≡ Some st
+    whole = sym (h ∙ ap (λ j. read (take j t) (field_size - j)) all ∙ ap (λ r. read r 0) (take_all field_size t (omega (arith, five))))
+
+    pub is_number : (m : Bool) (n : ℕ) → st ≡ Number m n → field_of t ≡ math.some (number m n)
+    is_number m n e = read_sound t m n five (whole ∙ ap Some e)
+
+    -- no digit stands in the last: the first four begin a number, and the five are none
+    pub ends_bare : (st ≡ Blank) ⊎ (st ≡ Minus) → FieldRead t (Err (record { column = field_size }))
+    unfolding found
+    ends_bare e = (none_read, omega arith, (front (read (take 4 t) 1) refl, ap field_begins (take_all field_size t (omega (arith, five))) ∙ ap (λ s. formed (field_of s)) no_more ∙ ap formed none_read))
+      where
+        bare : (st ≡ Blank) ⊎ (st ≡ Minus) → found (Some st) ≡ math.none
+        bare (inl e) = rw e
+        bare (inr e) = rw e
+
+        none_read : field_of t ≡ math.none
+        none_read = sym (read_found t five) ∙ ap found whole ∙ bare e
+
+        no_more : t ++ drop (length t) (field full) ≡ t
+        no_more = ap (λ r. t ++ r) (drop_of_length-le (field full) {i = length t} (omega (arith, five, length_field full refl))) ∙ append-nil t
+
+        last : read t 0 ≡ walk (read (take 4 t) 1) (drop 4 t) 0
+        last =
+            let e : length (drop 4 t) + 0 ≡ 1 = omega (arith, five, length-drop 4 t) in
+            ap (λ s. read s 0) (sym (take-append-drop 4 t)) ∙ walk_append (take 4 t) (drop 4 t) 0 (Some Blank) ∙ ap (λ i. walk (read (take 4 t) i) (drop 4 t) 0) e
+
+        front : (o : Option Scan) → read (take 4 t) 1 ≡ o → field_begins (take 4 t) ≡ true
+        front None r = let z : None ≡ Some st = sym (last ∙ ap (λ o. walk o (drop 4 t) 0) r ∙ walk_lost (drop 4 t) 0) ∙ whole in cc
+        front (Some q) r = good_begins (take 4 t) 1 (omega (arith, five, length-take-le 4 t (omega (arith, five)))) q (omega arith) r

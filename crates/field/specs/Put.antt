@@ -1,12 +1,12 @@
 -- Bytes put into a buffer: those before and after them stay. Assumes nothing.
-use Prim.Native.Nat.{ℕ, ◌+◌, ◌≤◌, ◌<◌}
-use Rattle.std.proofs.Common.{add-zero, add-one, arith, ◌∙◌, take-append-drop, length-take-le, take_at, drop_at}
-use mathlib.Core.List.{List, [], ◌∷◌, ◌++◌, append_assoc, append-nil}
-use Rattle.std.specs.Prelude.{◌≡◌, set}
+use Prim.Native.Nat.{ℕ, ◌+◌, ◌≤◌}
+use Rattle.std.proofs.Common.{add-zero, arith, ◌∙◌, take-append-drop, length-take-le, take_at, drop_at}
+use mathlib.Core.List.{List, [], ◌++◌, append_assoc, append-nil}
+use Rattle.std.specs.Prelude.{◌≡◌}
 use Rattle.std.proofs.Math.Path.{sym, ap, ap₂}
 use Rattle.std.proofs.Math.ListN.{length, take, drop, length-append}
-use Rattle.std.proofs.Math.Seq.{drop-drop, take-length, paste}
-use Rattle.std.proofs.lemmas.List.{set_split}
+use Rattle.std.proofs.Math.Seq.{drop-drop}
+use borrow.Rule.Slice.PartMut.{put_mid}
 
 unfoldable pub put : List ℕ → ℕ → List ℕ → List ℕ
 put out at s = take at out ++ s ++ drop (at + length s) out
@@ -15,14 +15,10 @@ pub put_nothing : (out : List ℕ) (at : ℕ) → put out at [] ≡ out
 unfolding put
 put_nothing out at = ap (λ m. take at out ++ [] ++ drop m out) (add-zero at) ∙ ap (λ s. s ++ drop at out) (append-nil (take at out)) ∙ take-append-drop at out
 
-pub put_byte : (out : List ℕ) (at b : ℕ) → at < length out → set out at b ≡ put out at (b ∷ [])
+-- what a part of the buffer that held k bytes from `at` on leaves, when it holds as many others
+pub put_part : (out s : List ℕ) (at k : ℕ) → k ≡ length s → put_mid at k out s ≡ put out at s
 unfolding put
-put_byte out at b h = set_split out at b h ∙ ap (λ m. take at out ++ b ∷ drop m out) (sym (add-one at)) ∙ sym (append_assoc (take at out) (b ∷ []) (drop (at + 1) out))
-
--- bytes put there one by one
-pub all_put : (out : List ℕ) (at : ℕ) (s : List ℕ) (n : ℕ) → length s ≡ n → paste out at s n ≡ put out at s
-unfolding put
-all_put out at s n e = rw (← e) (ap (λ r. take at out ++ r ++ drop (at + length s) out) (take-length s))
+put_part out s at k e = rw (e, drop-drop (length s) at out) (sym (append_assoc (take at out) s (drop (at + length s) out)))
 
 module _ (out : List ℕ) (at : ℕ) (s : List ℕ) (room : at + length s ≤ length out) where
   head_length : length (take at out ++ s) ≡ at + length s

@@ -1,16 +1,13 @@
 // A field: a number right-justified with spaces in five columns. It is read column by column up to the first byte that fits
 // nothing, and printed from its last digit to its first. Each direction promises what the scope says: what is read is what
-// `field_of` gives, with the column where it stops being the beginning of any; what is printed is what `field` has. It rests on `words` for
-// small conversions.
+// `field_of` gives, or the column where it stops being the beginning of any; what is printed is what `field` has.
 #![tactic(auto)]
 
-ghost use Rattle.std.specs.Prelude.{true, ◌≡◌, ◌+◌, ◌%◌, ◌≤◌, length, take, drop};
-ghost use Rattle.scope.specs.Sheet.{plus, field_size, digit, field, fits};
-ghost use Rattle.field.specs.Columns.{unless_last, with_digit, next, bad, found, number_from, field_from, FieldRead};
+ghost use Rattle.std.specs.Prelude.{true, ◌≡◌, ◌%◌, length};
+ghost use Rattle.scope.specs.Sheet.{field_size, digit, field, fits};
+ghost use Rattle.field.specs.Columns.{with_digit, next, number_from, FieldRead};
 ghost use Rattle.field.specs.Fields as fields;
 ghost use Rattle.field.specs.Fields.{sign_of};
-
-use words::convert::from_byte;
 
 pub const FIELD_SIZE: usize = 5;
 
@@ -33,18 +30,22 @@ pub struct Number {
 }
 
 // A number that is not below 0.
-pub fn plain(size: u32) -> Number
-    ensures { number_from result ≡ plus size }
-{
-    Number { minus: false, size }
+impl From<u32> for Number {
+    ghost use Rattle.std.specs.Prelude.{◌≡◌};
+    ghost use Rattle.scope.specs.Sheet.{plus};
+    ghost use Rattle.field.specs.Columns.{number_from};
+
+    ghost from_gives = { λ n x. number_from x ≡ plus n };
+
+    fn from(size: u32) -> Number {
+        Number { minus: false, size }
+    }
 }
 
-// What five columns hold; the number counts only where they are formed.
+// The column where bytes stop being the beginning of any that are formed, from 1.
 #[derive(Clone, Copy)]
-pub struct Field {
-    // where they stop being the beginning of any number, from 1; 0 if they are formed
+pub struct Malformed {
     pub column: usize,
-    pub number: Number,
 }
 
 // ---- reading
@@ -58,125 +59,66 @@ enum Scan {
     Minus,
     // whether the number is below zero, and its size
     Number(bool, u32),
-    // no number begins so
-    Bad,
 }
 
-fn with_digit(minus: bool, n: u32, b: u8) -> Scan
-    ensures { result ≡ with_digit minus n b }
+fn with_digit(minus: bool, size: u32, b: u8) -> Option<Scan>
+    ensures { result ≡ with_digit minus size b }
 {
-    if ROOM <= n {
-        return Scan::Bad;
+    if size < ROOM && ZERO <= b && b <= NINE {
+        return Some(Scan::Number(minus, size * 10 + u32::from(b - ZERO)));
     }
-    if b < ZERO {
-        return Scan::Bad;
-    }
-    if NINE < b {
-        return Scan::Bad;
-    }
-    let d = from_byte(b - ZERO);
-    Scan::Number(minus, n * 10 + d)
+    None
 }
 
-// A field ends in a digit.
-#[tactic(auto, unfolding(crate::specs::Columns::unless_last, crate::specs::Columns::pick))]
-fn unless_last(st: Scan, left: usize) -> Scan
-    ensures { result ≡ unless_last left st }
-{
-    if left == 0 { Scan::Bad } else { st }
-}
-
-fn after_spaces(b: u8, left: usize) -> Scan
+fn after_spaces(b: u8, left: usize) -> Option<Scan>
     ensures { result ≡ next Scan.Blank b left }
 {
     match b {
-        SPACE => unless_last(Scan::Blank, left),
-        MINUS => unless_last(Scan::Minus, left),
+        SPACE => Some(Scan::Blank),
+        MINUS => Some(Scan::Minus),
         // a zero stands alone
-        ZERO => {
-            if left == 0 {
-                return Scan::Number(false, 0);
-            }
-            Scan::Bad
-        }
+        ZERO => (left == 0).then_some(Scan::Number(false, 0)),
         _ => with_digit(false, 0, b),
     }
 }
 
-fn after_minus(b: u8, left: usize) -> Scan
+fn after_minus(b: u8, left: usize) -> Option<Scan>
     ensures { result ≡ next Scan.Minus b left }
 {
     match b {
-        ZERO => Scan::Bad,
+        ZERO => None,
         _ => with_digit(true, 0, b),
     }
 }
 
-// One more byte, with `left` columns after it.
-fn after(st: Scan, b: u8, left: usize) -> Scan
-    ensures { result ≡ next st b left }
+// One more byte, with `left` columns after it; None if no number begins so.
+fn after(scan: Scan, b: u8, left: usize) -> Option<Scan>
+    ensures { result ≡ next scan b left }
 {
-    match st {
+    match scan {
         Scan::Blank => after_spaces(b, left),
         Scan::Minus => after_minus(b, left),
-        Scan::Number(minus, n) => with_digit(minus, n, b),
-        Scan::Bad => Scan::Bad,
+        Scan::Number(minus, size) => with_digit(minus, size, b),
     }
 }
 
-fn is_bad(st: Scan) -> bool
-    ensures { result ≡ bad st }
+// The number of five columns.
+pub fn field_at(columns: &[u8]) -> Result<Number, Malformed>
+    requires { length columns.now ≡ field_size }
+    ensures { FieldRead columns.now result }
 {
-    match st {
-        Scan::Blank => false,
-        Scan::Minus => false,
-        Scan::Number(_, _) => false,
-        Scan::Bad => true,
+    let mut scan = Scan::Blank;
+    for (i, b) in columns.iter().enumerate() {
+        let Some(next) = after(scan, *b, FIELD_SIZE - 1 - i) else {
+            return Err(Malformed { column: i + 1 });
+        };
+        scan = next;
     }
-}
-
-fn stopped(column: usize) -> Field
-    ensures { result.column ≡ column }
-{
-    Field {
-        column,
-        number: Number {
-            minus: false,
-            size: 0,
-        },
+    match scan {
+        Scan::Number(minus, size) => Ok(Number { minus, size }),
+        // a field ends in a digit
+        Scan::Blank | Scan::Minus => Err(Malformed { column: FIELD_SIZE }),
     }
-}
-
-// All five columns are read and none of them was bad, so that a number is left.
-fn field_of(st: Scan) -> Field
-    ensures { (field_from result ≡ found st) × (result.column ≤ field_size) }
-{
-    match st {
-        Scan::Blank => stopped(FIELD_SIZE),
-        Scan::Minus => stopped(FIELD_SIZE),
-        Scan::Number(minus, size) => Field {
-            column: 0,
-            number: Number { minus, size },
-        },
-        Scan::Bad => stopped(FIELD_SIZE),
-    }
-}
-
-// The five columns from `at`.
-pub fn field_at(s: &[u8], at: usize) -> Field
-    requires { at + field_size ≤ length s.now }
-    ensures { FieldRead (take field_size (drop at s.now)) result }
-{
-    let mut st = Scan::Blank;
-    let mut i = 0;
-    while i < FIELD_SIZE {
-        st = after(st, s[at + i], FIELD_SIZE - 1 - i);
-        if is_bad(st) {
-            return stopped(i + 1);
-        }
-        i += 1;
-    }
-    field_of(st)
 }
 
 // ---- printing
@@ -192,10 +134,7 @@ fn last_digit(n: u32) -> u8
 fn sign(minus: bool) -> u8
     ensures { result ≡ sign_of minus }
 {
-    if minus {
-        return MINUS;
-    }
-    SPACE
+    if minus { MINUS } else { SPACE }
 }
 
 // The column of a digit, where n is what stands up to it, and `right` what stands up to the next: the sign is put there if only that

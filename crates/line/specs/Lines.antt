@@ -1,47 +1,47 @@
 -- What the code's lines stand for: in no promise of an exported call. Assumes nothing.
-use Rattle.std.specs.Prelude.{ℕ, suc, ◌+◌, ◌*◌, ◌≤◌, Bool, cond, List, map, ◌≢◌, ◌≡◌, eqb, take}
-use Rattle.std.proofs.Math.Option.{Option, none, some, get_or}
+use Rattle.std.specs.Prelude.{ℕ, ◌+◌, ◌*◌, ◌≤◌, List, [], ◌∷◌, ◌++◌, map, ◌≡◌, Result, Ok, Err}
+use Rattle.std.proofs.Math.Option.{none, some}
 use Rattle.scope.specs.Sheet as scope
-use Rattle.scope.specs.Sheet.{field_size}
-use Rattle.scope.specs.Reading.{when, fields_of, joined, line_of, column_of, Stop, fields_begin}
+use Rattle.scope.specs.Sheet.{field_size, field, line}
+use Rattle.scope.specs.Reading.{letter_of, fields_of, line_of, column_of, Stop, fields_begin}
 use Rattle.field.specs.Columns.{number_from}
 use Rattle.field.specs.declared.Number.{Number}
-use Rattle.line.specs.declared.line.Letter.{Letter}
-use Rattle.line.specs.declared.line.Letter.TheVariants.{Head, Not, And, Or, Rule, Wish, End, Unknown}
-use Rattle.line.specs.declared.line.Fields.{Fields}
+use Rattle.field.specs.declared.Malformed.{Malformed}
+use Rattle.line.specs.declared.letter.Letter.{Letter}
+use Rattle.line.specs.declared.letter.Letter.TheVariants.{Head, Not, And, Or, Rule, Wish, End}
 use Rattle.line.specs.declared.line.Line.{Line}
 
-abbrev pub letter_from : Letter → Option scope.Letter
-letter_from Head = some scope.H
-letter_from Not = some scope.N
-letter_from And = some scope.A
-letter_from Or = some scope.O
-letter_from Rule = some scope.R
-letter_from Wish = some scope.W
-letter_from End = some scope.Z
-letter_from Unknown = none
+abbrev pub letter_from : Letter → scope.Letter
+letter_from Head = scope.H
+letter_from Not = scope.N
+letter_from And = scope.A
+letter_from Or = scope.O
+letter_from Rule = scope.R
+letter_from Wish = scope.W
+letter_from End = scope.Z
 
--- the first n of an array
-unfoldable pub numbers_from : ℕ → List Number → List scope.Number
-numbers_from n xs = take n (map number_from xs)
+-- r is what the byte b of a line's first column holds
+abbrev pub LetterRead : (b : ℕ) → Result Letter Malformed → Type 0
+LetterRead b (Ok c) = letter_of b ≡ some (letter_from c)
+LetterRead b (Err m) = (letter_of b ≡ none) × (m.column ≡ 1)
 
-unfoldable pub fields_from : ℕ → Fields → Option (List scope.Number)
-fields_from n f = when (eqb f.column 0) (numbers_from n f.numbers)
+abbrev pub numbers_from : List Number → List scope.Number
+numbers_from xs = map number_from xs
 
--- f is what t holds: n fields and a line feed
-pub record FieldsRead (n : ℕ) (t : List ℕ) (f : Fields) : Type 0 where
-  pub numbers : fields_from n f ≡ fields_of n t
-  pub within : f.column ≤ n * field_size + 1
-  pub stops : f.column ≢ 0 → Stop (fields_begin n) t f.column
+-- r is what t holds: n fields and a line feed
+abbrev pub FieldsRead : (n : ℕ) (t : List ℕ) → Result (List Number) Malformed → Type 0
+FieldsRead n t (Ok xs) = fields_of n t ≡ some (numbers_from xs)
+FieldsRead n t (Err m) = (fields_of n t ≡ none) × (m.column ≤ n * field_size + 1) × Stop (fields_begin n) t m.column
 
-unfoldable pub line_from : ℕ → Line → Option scope.Line
-line_from n l = joined (letter_from l.letter) (when (eqb l.column 0) (numbers_from n l.numbers))
+abbrev pub line_from : {n : ℕ} → Line n → scope.Line
+line_from l = line (letter_from l.letter) (numbers_from l.numbers)
 
--- the column of a line from that of its fields
-unfoldable pub line_column : (known : Bool) → ℕ → ℕ
-line_column known c = cond known (cond (eqb c 0) 0 (suc c)) 1
+-- r is what the line t of n fields holds
+abbrev pub LineRead : (n : ℕ) (t : List ℕ) → Result (Line n) Malformed → Type 0
+LineRead n t (Ok l) = line_of n t ≡ some (line_from l)
+LineRead n t (Err m) = (line_of n t ≡ none) × (column_of n t ≡ some m.column)
 
--- l is what the line t holds
-pub record LineRead (n : ℕ) (t : List ℕ) (l : Line) : Type 0 where
-  pub line : line_from n l ≡ line_of n t
-  pub column : l.column ≡ get_or (column_of n t) 0
+-- numbers in their columns, without the line feed
+unfoldable pub fields_front : List scope.Number → List ℕ
+fields_front [] = []
+fields_front (x ∷ xs) = field x ++ fields_front xs

@@ -1,6 +1,14 @@
 // A line, read from bytes and put into a buffer, side by side. Each direction promises what the scope says: what is read is what `line_of`
-// gives, with the column where a line stops being the beginning of any; what is put is what `line_bytes` prints. The crate rests on
-// `field` for its numbers, and on `words`.
+// gives, or the column where the line stops being the beginning of any; what is put is what `line_bytes` prints. The crate rests on
+// `field` for its numbers.
 #![tactic(auto)]
 
-pub mod line;
+mod letter;
+mod line;
+mod put;
+mod read;
+
+pub use letter::Letter;
+pub use line::{FIELD_COUNT, Line, line_size};
+pub use put::put_line;
+pub use read::line_at;

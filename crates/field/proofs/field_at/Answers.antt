@@ -1,15 +1,21 @@
 -- What the walk over the columns so far holds tells whether they begin a number; after all five, the number.
-use Rattle.field.proofs.Columns.{begun, onward, stopped, ended}
+use Rattle.std.proofs.Common.{arith, refl, sym, ◌∙◌}
+use Rattle.field.specs.Columns.{walk}
+use Rattle.field.proofs.Columns.{next_state, stopped, is_number, ends_bare}
 use Rattle.field.proofs.field_at.Goals as goal
 
 pub loop-i-init : goal.loop-i-init
-loop-i-init c = begun _ _
+unfolding walk
+loop-i-init c = refl
 
-pub returns-then-is_bad : goal.returns-then-is_bad
-returns-then-is_bad c = stopped _ _ c.requires _ _ c.loop-i.invariant c.loop-i-test.true _ c.after-st.ensures c.is_bad.ensures c.if-is_bad.true _ c.stopped.ensures
+pub returns-in_default : goal.returns-in_default
+returns-in_default c = stopped _ c.requires _ _ c.loop-i.invariant (omega arith) _ refl (sym c.after.ensures ∙ c.in_default.is)
 
 pub loop-i-preserved : goal.loop-i-preserved
-loop-i-preserved c = onward _ _ c.requires _ _ c.loop-i.invariant c.loop-i-test.true _ c.after-st.ensures c.is_bad.ensures c.if-is_bad.false
+loop-i-preserved c = sym (sym c.after.ensures ∙ c.in-Some.is) ∙ next_state _ c.requires _ _ c.loop-i.invariant (omega arith) _ refl
 
-pub returns : goal.returns
-returns c = ended _ _ c.requires _ _ c.loop-i.invariant c.loop-i-test.false _ c.field_of.ensures
+pub returns-in-Number : goal.returns-in-Number
+returns-in-Number c = is_number _ c.requires _ _ c.loop-i.invariant (omega arith) _ _ c.in-Number.is
+
+pub returns-in-Blank : goal.returns-in-Blank
+returns-in-Blank c = ends_bare _ c.requires _ _ c.loop-i.invariant (omega arith) c.in-Blank.is

@@ -1,6 +1,6 @@
 -- A number that fits is its five columns, each from the digits up to it.
 use Rattle.field.specs.Columns.{number_from}
-use Rattle.field.specs.Fields.{field_columns}
+use Rattle.field.proofs.Printed.{field_columns}
 use Rattle.field.proofs.field_bytes.Goals as goal
 
 pub returns : goal.returns

@@ -1,16 +1,16 @@
 -- A literal leaves whether all are literals and then zeros as it is; a 0 leaves it to the fields after it; any other number settles it.
-use Rattle.std.proofs.Common.{rules, sym, ◌∙◌}
-use Rattle.causes.proofs.allowed.Fields.{literals_end, literals-fill, literals-go-on, literals-stop}
+use Rattle.std.proofs.Common.{sym, ◌∙◌}
+use Rattle.causes.proofs.Fields.{literals_end, literals-fill, literals-go-on, literals-stop}
 use Rattle.causes.proofs.allowed.are_literals.Goals as goal
 
-pub returns-then-zero : goal.returns-then-zero
-returns-then-zero c = c.unused.ensures ∙ literals-fill _ _ _ (search rules) _ _ c.loop-i-test.true c.nth-x.ensures c.is_number-zero.ensures _ c.if-zero.true ∙ c.loop-i.invariant.1
+pub returns-then-is_number : goal.returns-then-is_number
+returns-then-is_number c = c.are_unused.ensures ∙ literals-fill _ _ _ _ c.loop-i-test.true (sym c.is_number.ensures ∙ c.if-is_number.true) ∙ c.loop-i.invariant
 
-pub returns-then-not-known : goal.returns-then-not-known
-returns-then-not-known c = literals-stop _ _ _ (search rules) _ _ c.loop-i-test.true c.nth-x.ensures c.is_number-zero.ensures _ c.if-zero.false (sym c.is_literal-known.ensures ∙ c.if-not-known.true) ∙ c.loop-i.invariant.1
+pub returns-then-not-is_literal : goal.returns-then-not-is_literal
+returns-then-not-is_literal c = literals-stop _ _ _ _ c.loop-i-test.true (sym c.is_number.ensures ∙ c.if-is_number.false) (sym c.is_literal.ensures ∙ c.if-not-is_literal.true) ∙ c.loop-i.invariant
 
 pub loop-i-preserved : goal.loop-i-preserved
-loop-i-preserved c = (search rules, literals-go-on _ _ _ (search rules) _ _ c.loop-i-test.true c.nth-x.ensures c.is_number-zero.ensures _ c.if-zero.false (sym c.is_literal-known.ensures ∙ c.if-not-known.false) ∙ c.loop-i.invariant.1)
+loop-i-preserved c = literals-go-on _ _ _ _ c.loop-i-test.true (sym c.is_number.ensures ∙ c.if-is_number.false) (sym c.is_literal.ensures ∙ c.if-not-is_literal.false) ∙ c.loop-i.invariant
 
 pub returns : goal.returns
-returns c = sym (literals_end _ _ _ (search rules) _ c.loop-i-test.false) ∙ c.loop-i.invariant.1
+returns c = sym (literals_end _ _ _ c.loop-i-test.false) ∙ c.loop-i.invariant

@@ -1,0 +1,33 @@
+// Putting a line into its bytes.
+ghost use Rattle.std.specs.Prelude.{◌∷◌, ◌≡◌, ◌*◌, length};
+ghost use Rattle.scope.specs.Sheet.{field_size, fields_bytes};
+ghost use Rattle.scope.specs.Causes.{line_size};
+ghost use Rattle.scope.specs.Reading.{Fit};
+ghost use Rattle.line.specs.Lines.{numbers_from, fields_front};
+
+use crate::line::LINE_FEED;
+use field::{FIELD_SIZE, Number, field_bytes};
+
+// Puts numbers one after another into their columns.
+fn put_fields(out: &mut [u8], numbers: &[Number])
+    requires fit { Fit (numbers_from numbers.now) }
+    requires whole { length out.old ≡ length numbers.now * field_size }
+    ensures { out.new ≡ fields_front (numbers_from numbers.now) }
+{
+    for (i, x) in numbers.iter().enumerate() {
+        let at = i * FIELD_SIZE;
+        out[at..at + FIELD_SIZE].copy_from_slice(&field_bytes(*x));
+    }
+}
+
+// Puts a line into its bytes: a letter, which may be one that no sheet has, and its numbers.
+pub fn put_line(out: &mut [u8], letter: u8, numbers: &[Number])
+    requires fit { Fit (numbers_from numbers.now) }
+    requires whole { length out.old ≡ line_size (length numbers.now) }
+    ensures { out.new ≡ letter ∷ fields_bytes (numbers_from numbers.now) }
+{
+    let end = out.len() - 1;
+    out[0] = letter;
+    put_fields(&mut out[1..end], numbers);
+    out[end] = LINE_FEED;
+}
