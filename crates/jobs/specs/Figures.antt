@@ -1,44 +1,35 @@
--- The figures that the jobs return, as the scope names them, and those of each case of an enum. Assumes nothing.
-use Rattle.std.specs.Prelude.{ℕ, cond, List, [], ◌∷◌}
-use Rattle.scope.specs.Jobs.{Result, refusal, found, Answer, answered}
+-- The figures that the jobs return, as the scope names them. Assumes nothing.
+use Rattle.std.specs.Prelude.{ℕ, List, [], ◌∷◌, Result, Ok, Err}
+use Rattle.scope.specs.Jobs.{refusal, found, Answer, answered, unrated, rated}
 use Rattle.scope.specs.Jobs as jobs
 use Rattle.scope.specs.Program.{one}
+use Rattle.words.specs.declared.refusal.Cause.{Cause}
+use Rattle.words.specs.Refusals.{number_of}
 use Rattle.circuit.specs.Answers.{missed_of}
-use Rattle.circuit.specs.declared.rule.Missed.{Missed}
-use Rattle.search.specs.declared.best.Best.{Best}
-use Rattle.search.specs.declared.best.Best.TheVariants.{Nothing, At}
-use Rattle.search.specs.declared.run.Run.{Run}
+use Rattle.search.specs.declared.best.Candidate.{Candidate}
 use Rattle.jobs.specs.declared.outcome.Outcome.{Outcome}
 use Rattle.jobs.specs.declared.outcome.Rating.{Rating}
 
-abbrev pub result_of : Outcome → Result
-result_of r = record { number = r.number; place = r.place; column = r.column; plan = r.plan.0; cost = r.cost; length = r.length }
+-- the plan with its cost, or the cause that there is none
+abbrev pub answer_figures : Result Candidate Cause → (length : ℕ) → jobs.Result
+answer_figures (Ok c) l = found c.plan.0 c.cost l
+answer_figures (Err e) l = refusal (number_of e.refusal) e.place e.column l
 
-abbrev pub rating_of : Rating → jobs.Rating
-rating_of r = record { number = r.number; place = r.place; column = r.column; cost = r.cost; sound = r.sound; pattern = r.pattern.0; length = r.length }
+abbrev pub result_of : Outcome → jobs.Result
+result_of o = answer_figures o.answer o.length
+
+-- the plan's cost, and the first pattern that it misses, if any
+abbrev pub rating_of : Result Rating Cause → jobs.Rating
+rating_of (Ok r) = rated r.cost (missed_of r.missed)
+rating_of (Err e) = unrated (number_of e.refusal) e.place e.column
 
 -- Answer's figures, and the lent list afterwards
 abbrev pub answer_from : Outcome → List ℕ → Answer
-answer_from r l = answered (result_of r) l
-
--- ---- number and values for each case of an enum
-
--- the best plan with its cost, or 8
-abbrev pub best_figures : Best → (length : ℕ) → Result
-best_figures Nothing l = refusal 8 0 0 l
-best_figures (At p c) l = found p.0 c l
-
--- a full run's, or 9 where the room ran out
-abbrev pub run_figures : Run → Result
-run_figures r = cond r.full (refusal 9 0 0 r.length) (best_figures r.best r.length)
-
--- a plan's cost, and the first pattern that it misses, if any
-abbrev pub missed_figures : (cost : ℕ) → Missed → jobs.Rating
-missed_figures c m = jobs.rated c (missed_of m)
+answer_from o l = answered (result_of o) l
 
 -- ---- the figures one by one, as the calls for C hand them out
 
-abbrev pub figures : (number place column plan cost length : ℕ) → Result
+abbrev pub figures : (number place column plan cost length : ℕ) → jobs.Result
 figures n k i p c l = record { number = n; place = k; column = i; plan = p; cost = c; length = l }
 
 -- sound is 1 or 0

@@ -1,74 +1,50 @@
 // Answer and Short run.
-ghost use Rattle.std.specs.Prelude.{◌≡◌};
-ghost use Rattle.scope.specs.Causes.{Read};
-ghost use Rattle.scope.specs.Source.{Source};
+ghost use Rattle.std.specs.Prelude.{◌≡◌, ◌≤◌, ◌<◌, length, IfSome};
+ghost use Rattle.scope.specs.Causes.{accepted};
 ghost use Rattle.scope.specs.Jobs.{answer_of, short_of, first_high};
-ghost use Rattle.words.specs.Told.{told};
-ghost use Rattle.jobs.specs.Figures.{result_of, answer_from, run_figures};
-ghost use Rattle.jobs.specs.Steps.{high_of};
+ghost use Rattle.jobs.specs.Figures.{result_of, answer_from};
+ghost use Rattle.jobs.specs.Steps.{run_figures, high_of};
 
-use crate::outcome::{Outcome, best_outcome, cause, refused};
-use search::best::{Best, best_plan};
-use search::run::{Run, run_rounds};
-use words::Words;
-use words::counts::counts_of;
-use words::refusal::{Cause, HIGH_PATTERN, NO_ROOM};
+use crate::outcome::Outcome;
+use circuit::rule::power;
+use search::best::best_plan;
+use search::run::{NoRoom, Run, run_rounds};
+use words::refusal::{Cause, Refusal};
+use words::sheet::Sheet;
 
-// The figures of a full run.
+// What a full run comes to.
 fn run_outcome(run: Run) -> Outcome
-    ensures { result_of result ≡ run_figures run }
+    ensures figures { result_of result ≡ run_figures run }
+    ensures length { result.length ≡ run.length }
 {
-    let full = run.full;
-    if full {
-        return refused(cause(NO_ROOM, 0), run.length);
+    match run.best {
+        Ok(best) => Outcome::best(best, run.length),
+        Err(NoRoom) => Outcome::refused(Cause::at(Refusal::NoRoom, 0), run.length),
     }
-    let best = run.best;
-    best_outcome(best, run.length)
 }
 
 // Answer, the full run: the list goes into `list`, and words after it keep their content.
-pub fn answer(read: Cause, sheet: &Words, list: &mut [u32]) -> Outcome
-    ghost r: { Read }
-    requires sheet_value { told read sheet.now ≡ r }
-    requires source { Source r }
-    ensures { answer_from result list.new ≡ answer_of r list.old }
+pub fn answer(sheet: &Sheet, list: &mut [u32]) -> Outcome
+    ensures answer { answer_from result list.new ≡ answer_of (accepted sheet.now) list.old }
+    ensures within { result.length ≤ length list.old }
 {
-    if read.number != 0 {
-        return refused(read, 0);
-    }
-    let run = run_rounds(sheet, list);
-    run_outcome(run)
+    run_outcome(run_rounds(sheet, list))
 }
 
-// The position, from 1, of the first word that is not below the bound; 0 if all are.
-fn first_high(list: &[u32], bound: u32) -> usize
-    ensures { high_of result ≡ first_high bound 1 list.now }
+// The place, from 0, of the first word that is not below the bound.
+fn first_high(list: &[u32], bound: u32) -> Option<usize>
+    ensures first { high_of result ≡ first_high bound 1 list.now }
+    ensures within { IfSome result (λ i. i < length list.now) }
 {
-    let mut i = 0;
-    while i < list.len() {
-        if bound <= list[i] {
-            return i + 1;
-        }
-        i += 1;
-    }
-    0
+    list.iter().position(|q| bound <= *q)
 }
 
-// Short run: the best plan that passes the given patterns.
-pub fn short_run(read: Cause, sheet: &Words, patterns: &[u32]) -> Outcome
-    ghost r: { Read }
-    requires sheet_value { told read sheet.now ≡ r }
-    requires source { Source r }
-    ensures { result_of result ≡ short_of r patterns.now }
+// Short run: the best plan that passes the given patterns. A pattern's position is counted from 1.
+pub fn short_run(sheet: &Sheet, patterns: &[u32]) -> Outcome
+    ensures { result_of result ≡ short_of (accepted sheet.now) patterns.now }
 {
-    if read.number != 0 {
-        return refused(read, 0);
+    if let Some(i) = first_high(patterns, power(sheet.counts().faults)) {
+        return Outcome::refused(Cause::at(Refusal::HighPattern, i + 1), 0);
     }
-    let faults = counts_of(sheet).faults;
-    let high = first_high(patterns, circuit::rule::power(faults));
-    if high != 0 {
-        return refused(cause(HIGH_PATTERN, high), 0);
-    }
-    let best = best_plan(sheet, patterns, Best::Nothing);
-    best_outcome(best, 0)
+    Outcome::best(best_plan(sheet, patterns, None), 0)
 }

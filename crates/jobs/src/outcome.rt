@@ -1,33 +1,49 @@
 // What the jobs return.
-ghost use Rattle.std.specs.Prelude.{◌≡◌};
+ghost use Rattle.std.specs.Prelude.{ℕ, ◌≡◌, List};
+ghost use Rattle.scope.specs.Causes.{refused};
 ghost use Rattle.scope.specs.Jobs.{refusal};
-ghost use Rattle.jobs.specs.Figures.{result_of, best_figures};
+ghost use Rattle.scope.specs.Demands.{Runs};
+ghost use Rattle.words.specs.Refusals.{number_of};
+ghost use Rattle.jobs.specs.Figures.{result_of, answer_from};
+ghost use Rattle.jobs.specs.Steps.{best_figures};
 
-use search::best::Best;
-use words::refusal::{Cause, NO_PLAN};
-use words::{Pattern, Plan};
+use search::best::Candidate;
+use words::Pattern;
+use words::refusal::{Cause, Refusal};
 
-// What Answer and Short run return. The number is 0 with a plan; otherwise it says why there is none, and place and column where.
+// What Answer and Short run return: the best plan, or why there is none, and where; and the list's length.
 #[derive(Clone, Copy)]
 pub struct Outcome {
-    pub number: u32,
-    pub place: usize,
-    pub column: usize,
-    pub plan: Plan,
-    pub cost: u32,
+    pub answer: Result<Candidate, Cause>,
     pub length: usize,
 }
 
-// What Rating returns.
+impl Outcome {
+    pub fn refused(cause: Cause, length: usize) -> Outcome
+        ensures { result_of result ≡ refusal (number_of cause.refusal) cause.place cause.column length }
+    {
+        Outcome {
+            answer: Err(cause),
+            length,
+        }
+    }
+
+    // The best plan, or that there is none.
+    pub(crate) fn best(best: Option<Candidate>, length: usize) -> Outcome
+        ensures { result_of result ≡ best_figures best length }
+    {
+        Outcome {
+            answer: best.ok_or(Cause::at(Refusal::NoPlan, 0)),
+            length,
+        }
+    }
+}
+
+// What Rating returns: the plan's cost, and the smallest pattern that it does not pass. It is sound if there is none.
 #[derive(Clone, Copy)]
 pub struct Rating {
-    pub number: u32,
-    pub place: usize,
-    pub column: usize,
     pub cost: u32,
-    pub sound: bool,
-    pub pattern: Pattern,
-    pub length: usize,
+    pub missed: Option<Pattern>,
 }
 
 // What the three calls of demand 3 return: Answer, Short run over what it listed, and Short run over the first of that.
@@ -38,44 +54,16 @@ pub struct PairRuns {
     pub front: Outcome,
 }
 
-// Fields not named are 0 on refusal.
-pub fn refused(cause: Cause, length: usize) -> Outcome
-    ensures { result_of result ≡ refusal cause.number cause.place cause.column length }
-{
-    Outcome {
-        number: cause.number,
-        place: cause.place,
-        column: cause.column,
-        plan: Plan(0),
-        cost: 0,
-        length,
-    }
-}
-
-// A cause that has no column; that of a list or a plan has no line either.
-pub fn cause(number: u32, place: usize) -> Cause
-    ensures { result ≡ record { number = number; place = place; column = 0 } }
-{
-    Cause {
-        number,
-        place,
-        column: 0,
-    }
-}
-
-// The best plan with its cost, or that there is no plan.
-pub fn best_outcome(best: Best, length: usize) -> Outcome
-    ensures { result_of result ≡ best_figures best length }
-{
-    match best {
-        Best::Nothing => refused(cause(NO_PLAN, 0), length),
-        Best::At(plan, cost) => Outcome {
-            number: 0,
-            place: 0,
-            column: 0,
-            plan,
-            cost,
-            length,
-        },
+impl PairRuns {
+    // Where nothing is accepted, all three tell the cause, and the list is as it was.
+    pub fn refused(cause: Cause) -> PairRuns
+        ensures { (lent : List ℕ) (j : ℕ) → Runs (refused (number_of cause.refusal) cause.place cause.column) lent j (answer_from result.full lent) (result_of result.short) (result_of result.front) }
+    {
+        let outcome = Outcome::refused(cause, 0);
+        PairRuns {
+            full: outcome,
+            short: outcome,
+            front: outcome,
+        }
     }
 }

@@ -1,81 +1,56 @@
 // One round of the list rule, and the full run.
 ghost use Rattle.std.specs.Prelude.{◌≡◌};
-ghost use Rattle.scope.specs.Sheet.{Sheet, Valid};
-ghost use Rattle.scope.specs.Words.{held};
+ghost use Rattle.scope.specs.Rule.{missed_by};
 ghost use Rattle.scope.specs.Jobs.{task};
-ghost use Rattle.search.specs.Answers.{Ran};
-ghost use Rattle.search.specs.Steps.{Fails, Stepped};
+ghost use Rattle.circuit.specs.Answers.{missed_of};
+ghost use Rattle.search.specs.Answers.{best_of, Ran};
 
-use crate::best::{Best, best_plan};
-use circuit::rule::{Missed, first_missed};
-use words::{Pattern, Words};
+use crate::best::{Candidate, best_plan};
+use circuit::rule::first_missed;
+use words::Pattern;
+use words::sheet::Sheet;
 
-// What a round comes to: the run's end, or one pattern more, with the candidate that misses it.
-#[derive(Drop)]
-enum Step {
-    Done(Best),
-    Add(Pattern, Best),
-}
-
-// One round over the patterns listed so far; `last` is the candidate of the round before.
-fn round(sheet: &Words, list: &[u32], last: Best) -> Step
-    ghost t: { Sheet }
-    requires sheet_value { held sheet.now ≡ t }
-    requires valid { Valid t × Fails (task t) list.now last }
-    ensures { Stepped (task t) list.now result }
-{
-    let best = best_plan(sheet, list, last);
-    match best {
-        Best::Nothing => Step::Done(Best::Nothing),
-        Best::At(plan, cost) => {
-            let missed = first_missed(sheet, plan);
-            match missed {
-                Missed::Nothing => Step::Done(Best::At(plan, cost)),
-                Missed::At(pattern) => Step::Add(pattern, Best::At(plan, cost)),
-            }
-        }
-    }
-}
+// The list is longer than its room.
+#[derive(Clone, Copy)]
+pub struct NoRoom;
 
 // Where a run has come to: the best plan, if there is room for the list, and the list's length.
-#[derive(Drop)]
+#[derive(Clone, Copy)]
 pub struct Run {
-    pub full: bool,
-    pub best: Best,
+    pub best: Result<Option<Candidate>, NoRoom>,
     pub length: usize,
 }
 
-// Rounds until the run ends: the list goes into `list`, and words after it keep their content.
-pub fn run_rounds(sheet: &Words, list: &mut [u32]) -> Run
-    ghost t: { Sheet }
-    requires sheet_value { held sheet.now ≡ t }
-    requires valid { Valid t }
-    ensures { Ran (task t) list.old result list.new }
+// The pattern to list next: the smallest that the candidate misses. There is none if there is no candidate,
+// or it is sound.
+fn next(sheet: &Sheet, candidate: Option<Candidate>) -> Option<Pattern>
+    ensures { missed_of result ≡ missed_by (task sheet.now) (best_of candidate) }
 {
-    let mut n = 0;
-    let mut last = Best::Nothing;
+    first_missed(sheet, candidate?.plan)
+}
+
+// Rounds until the run ends: the list goes into `list`, and words after it keep their content.
+pub fn run_rounds(sheet: &Sheet, list: &mut [u32]) -> Run
+    ensures { Ran (task sheet.now) list.old result list.new }
+{
+    let mut length = 0;
+    let mut last = None;
     loop {
-        let step = round(sheet, &list[..n], last);
-        match step {
-            Step::Done(best) => {
-                return Run {
-                    full: false,
-                    best,
-                    length: n,
-                }
-            }
-            Step::Add(pattern, candidate) => {
-                if n == list.len() {
-                    return Run {
-                        full: true,
-                        best: Best::Nothing,
-                        length: n,
-                    };
-                }
-                list[n] = pattern.0;
-                n += 1;
-                last = candidate;
-            }
+        let candidate = best_plan(sheet, &list[..length], last);
+        let Some(pattern) = next(sheet, candidate) else {
+            return Run {
+                best: Ok(candidate),
+                length,
+            };
+        };
+        if length == list.len() {
+            return Run {
+                best: Err(NoRoom),
+                length,
+            };
         }
+        list[length] = pattern.0;
+        length += 1;
+        last = candidate;
     }
 }

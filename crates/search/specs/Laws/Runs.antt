@@ -1,17 +1,14 @@
 -- A run into a lent list, round by round. Assumes nothing.
-use Rattle.std.specs.Prelude.{ℕ, suc, ◌+◌, ◌-◌, ◌≤◌, ◌<◌, true, false, List, [], ◌∷◌, ◌++◌, ◌≡◌, refl, length, take, drop, set}
+use Rattle.std.specs.Prelude.{ℕ, suc, ◌+◌, ◌-◌, ◌≤◌, ◌<◌, List, [], ◌∷◌, ◌++◌, ◌≡◌, refl, length, take, drop, set, Option, Ok, Err}
 use Rattle.std.proofs.Math.Nat.{sub-zero}
 use Rattle.std.proofs.Common.{arith, add-one, sym, ap, ◌∙◌, length-set, take-append-drop, length-take-le, take-suc-set, drop-set-lt, drop-drop}
-use Rattle.std.proofs.Math.Option.{some}
-use Rattle.scope.specs.Rule.{Task, next, short, rule}
+use Rattle.std.proofs.Math.Option.{none, some}
+use Rattle.scope.specs.Rule.{Task, best, next, short, rule}
 use Rattle.scope.specs.Jobs.{over}
 use Rattle.scope.proofs.Laws.Rules.{rule_stop, rule_full, rule_more}
-use Rattle.search.specs.declared.best.Best.{Best}
-use Rattle.search.specs.declared.best.Best.TheVariants.{Nothing}
-use Rattle.search.specs.declared.run.Step.TheVariants.{Done}
-use Rattle.search.specs.declared.run.Run.{Run}
-use Rattle.search.specs.Answers.{Ran}
-use Rattle.search.specs.Steps.{Stepped}
+use Rattle.search.specs.declared.best.Candidate.{Candidate}
+use Rattle.search.specs.declared.run.NoRoom.{NoRoom}
+use Rattle.search.specs.Answers.{best_of, Priced, Ran}
 
 -- ---- the lent list: n patterns listed, the rest as it was
 
@@ -49,21 +46,21 @@ module _ (t : Task) (lent l : List ℕ) (n : ℕ) (k : Kept lent l n) (o : Onwar
       let m : length l - n ≡ suc (length l - (n + 1)) = omega arith in
       o ∙ rw (m, length-set l n x, listed_more l n x h) (rule_more t (length l - (n + 1)) (take n l) e)
 
-  pub on_done : (r : Run) (b : Best) → r.full ≡ false → r.best ≡ b → r.length ≡ n → Stepped t (take n l) (Done b) → Ran t lent r l
+  pub on_done : (b : Option Candidate) → next t (take n l) ≡ none → best_of b ≡ best t (take n l) → Priced t b → Ran t lent (record { best = Ok b; length = n }) l
   unfolding short
-  on_done r b f g e (s, p, q) = record {
+  on_done b s p q = record {
     fits = omega (arith, k.fits, k.same);
-    ruled = o ∙ rule_stop t (length l - n) (take n l) s ∙ rw (f, g, e, p);
-    list = rw e (kept_over lent l n k);
-    priced = rw g q;
+    ruled = o ∙ rule_stop t (length l - n) (take n l) s ∙ rw p;
+    list = kept_over lent l n k;
+    priced = q;
   }
 
-  pub on_full : (r : Run) (x : ℕ) → r.full ≡ true → r.best ≡ Nothing → r.length ≡ n → next t (take n l) ≡ some x → n ≡ length l → Ran t lent r l
-  on_full r x f g e s h =
+  pub on_full : (e : NoRoom) (x : ℕ) → next t (take n l) ≡ some x → length l ≤ n → Ran t lent (record { best = Err e; length = n }) l
+  on_full e x s h =
       let m : length l - n ≡ 0 = omega arith in
       record {
         fits = omega (arith, k.fits, k.same);
-        ruled = o ∙ rw (m, f, e) (rule_full t (take n l) s);
-        list = rw e (kept_over lent l n k);
-        priced = rw g tt;
+        ruled = o ∙ rw m (rule_full t (take n l) s);
+        list = kept_over lent l n k;
+        priced = tt;
       }

@@ -1,14 +1,11 @@
--- The words passed are below the bound, so the first high one from here on is that of the whole list.
-use Rattle.std.proofs.Common.{◌≡◌, ◌+◌, arith, sym, ap, ◌∙◌}
-use Rattle.std.proofs.Math.Option.{some}
-use Rattle.jobs.specs.Laws.Jobs.{high_end, high_here, high_none, high_some}
+-- The words before the place found are below the bound, and all are where none is found.
+use Rattle.std.proofs.Common.{◌<◌, ◌≤◌, rules}
+use borrow.Author.Tests.{tests}
+use Rattle.std.proofs.lemmas.Iterator.{YieldsList-from_slice, IsFirst-from_position}
+use Rattle.jobs.specs.Laws.Jobs.{high_found}
 use Rattle.jobs.proofs.answer.first_high.Goals as goal
 
-pub returns-then-bound-list : goal.returns-then-bound-list
-returns-then-bound-list c =
-    let i = c.loop-i.i in
-    let n : i + 1 ≡ 1 + i = omega arith in
-    high_some (i + 1) (λ e. omega arith) ∙ ap some n ∙ sym (high_here c.args.bound 1 c.args.list.now i c.loop-i-test.true c.if-bound-list.true) ∙ c.loop-i.invariant.1
-
-pub returns : goal.returns
-returns c = high_none ∙ sym (high_end c.args.bound 1 c.args.list.now c.loop-i.i c.loop-i-test.false) ∙ c.loop-i.invariant.1
+pub returns-clause-first : goal.returns-clause-first
+returns-clause-first c =
+    high_found c.args.bound c.args.list.now c.position.result
+    (IsFirst-from_position _ _ c.position.result (λ q. c.args.bound ≤ q) (λ q. q < c.args.bound) c.position.ensures.ran (YieldsList-from_slice c.args.list.now c.iter.ensures.rest) (λ x q k. search (rules, tests)) (λ x q k. search (rules, tests)))

@@ -1,15 +1,14 @@
--- The plan passes every listed pattern before i. One that it does not pass settles that it does not pass the list, and at the end it
--- passes each.
-use Rattle.std.proofs.Common.{arith, sym, ◌∙◌}
+-- The list is passed when each of its patterns is.
+use Rattle.std.proofs.Common.{rules, ◌∙◌}
+use borrow.Author.Tests.{tests}
+use Rattle.std.proofs.lemmas.Iterator.{YieldsList-from_slice}
+use Rattle.std.proofs.lemmas.Iterator.Search.{all_from_yields_List}
+use Rattle.scope.specs.Meaning.{passes}
 use Rattle.scope.specs.Jobs.{task}
-use Rattle.scope.proofs.Laws.Rules.{passes_all_lem}
-use Rattle.search.specs.Laws.Plans.{passes_not}
+use Rattle.search.specs.Laws.Plans.{all_passed}
 use Rattle.search.proofs.best.passes_all.Goals as goal
 
-pub returns-then-not-passes : goal.returns-then-not-passes
-returns-then-not-passes g c =
-    sym (passes_not (task g.t) c.args.plan.0 c.args.list.now c.loop-i.i c.loop-i-test.true (sym c.passes.ensures ∙ c.if-not-passes.true))
-
 pub returns : goal.returns
-returns g c =
-    sym (passes_all_lem (task g.t) c.args.plan.0 c.args.list.now (λ i h. rw (← c.requires.0) (c.loop-i.invariant.1 i (omega arith))))
+returns c =
+    all_from_yields_List (passes c.args.sheet.now c.args.plan.0) _ _ c.all.result c.all.ensures.ran (YieldsList-from_slice c.args.list.now c.iter.ensures.rest) (λ x b q k. search (rules, tests))
+    ∙ all_passed (task c.args.sheet.now) c.args.plan.0 c.args.list.now

@@ -1,27 +1,45 @@
--- The rule goes on from the n patterns listed with the room that is left, the words after them are as they were lent, and the last
--- candidate and every better plan fail the list. A round that ends ends the rule; one that finds a pattern is one step of it where
--- there is room, and where there is none the rule ends too.
-use Rattle.std.proofs.Common.{◌<◌, [], length, refl, arith}
+-- The rule goes on from the patterns listed with the room that is left, the words after them are as they were lent, and the last
+-- candidate and every better plan fail the list. A round that lists nothing ends the rule; one that lists a pattern is one step of it
+-- where there is room, and where there is none the rule ends too.
+use Rattle.std.proofs.Common.{◌≡◌, ◌<◌, [], length, take, arith, sym, ◌∙◌}
+use Rattle.std.proofs.Math.Option.{none, some}
+use Rattle.scope.specs.Rule.{next}
 use Rattle.scope.specs.Jobs.{task}
-use Rattle.search.specs.Laws.Rounds.{none_fails}
+use Rattle.search.specs.Laws.Rounds.{none_fails, next_is, listed_fails}
 use Rattle.search.specs.Laws.Runs.{kept_none, kept_more, listed_more, on_start, on_more, on_done, on_full}
 use Rattle.search.proofs.run.run_rounds.Goals as goal
 
-pub loop-best-init : goal.loop-best-init
-loop-best-init g c = (kept_none c.args.list.now, on_start (task g.t) c.args.list.now, none_fails (task g.t) [])
+pub loop-pattern-init : goal.loop-pattern-init
+loop-pattern-init c = (kept_none c.args.list.now, on_start (task c.args.sheet.now) c.args.list.now, none_fails (task c.args.sheet.now) [])
 
-pub returns-in-Done : goal.returns-in-Done
-returns-in-Done g c =
-    on_done (task g.t) c.args.list.now c.loop-best.list c.loop-best.n c.loop-best.invariant.0 c.loop-best.invariant.1 _ _ refl refl refl c.in-Done.ensures
+pub returns-in_default : goal.returns-in_default
+returns-in_default c =
+    let t = task c.args.sheet.now in
+    let l = c.loop-pattern.list in
+    let n = c.loop-pattern.length in
+    let b = c.best_plan-candidate in
+    let s : next t (take n l) ≡ none = sym (c.in_default.ensures ∙ next_is t (take n l) b.result b.ensures.0) in
+    on_done t c.args.list.now l n c.loop-pattern.invariant.0 c.loop-pattern.invariant.1 b.result s b.ensures.0 b.ensures.1
 
-pub returns-then-n-list : goal.returns-then-n-list
-returns-then-n-list g c =
-    on_full (task g.t) c.args.list.now c.loop-best.list c.loop-best.n c.loop-best.invariant.0 c.loop-best.invariant.1 _ _ refl refl refl c.in-Add.ensures.0 c.if-n-list.true
+pub returns-then-length-list : goal.returns-then-length-list
+returns-then-length-list c =
+    let t = task c.args.sheet.now in
+    let l = c.loop-pattern.list in
+    let n = c.loop-pattern.length in
+    let b = c.best_plan-candidate in
+    let s : next t (take n l) ≡ some c.in-Some.pattern.0 = sym (c.in-Some.ensures ∙ next_is t (take n l) b.result b.ensures.0) in
+    on_full t c.args.list.now l n c.loop-pattern.invariant.0 c.loop-pattern.invariant.1 _ c.in-Some.pattern.0 s (omega arith)
 
-pub loop-best-preserved : goal.loop-best-preserved
-loop-best-preserved g c =
-    let h : c.loop-best.n < length c.loop-best.list = omega (arith, c.loop-best.invariant.0.fits) in (
-      kept_more c.args.list.now c.loop-best.list c.loop-best.n _ h c.loop-best.invariant.0,
-      on_more (task g.t) c.args.list.now c.loop-best.list c.loop-best.n c.loop-best.invariant.0 c.loop-best.invariant.1 _ c.in-Add.ensures.0 h,
-      rw (listed_more c.loop-best.list c.loop-best.n _ h) c.in-Add.ensures.1,
+pub loop-pattern-preserved : goal.loop-pattern-preserved
+loop-pattern-preserved c =
+    let t = task c.args.sheet.now in
+    let l = c.loop-pattern.list in
+    let n = c.loop-pattern.length in
+    let q = c.in-Some.pattern.0 in
+    let b = c.best_plan-candidate in
+    let s : next t (take n l) ≡ some q = sym (c.in-Some.ensures ∙ next_is t (take n l) b.result b.ensures.0) in
+    let h : n < length l = omega (arith, c.loop-pattern.invariant.0.fits) in (
+      kept_more c.args.list.now l n q h c.loop-pattern.invariant.0,
+      on_more t c.args.list.now l n c.loop-pattern.invariant.0 c.loop-pattern.invariant.1 q s h,
+      rw (listed_more l n q h) (listed_fails t (take n l) b.result b.ensures.0 b.ensures.1 q (sym c.in-Some.ensures)),
     )
