@@ -5,4 +5,5 @@
 
 pub mod level;
 pub mod parsed;
+pub mod points;
 pub mod sign;

@@ -1,24 +1,21 @@
 // What comes after a formula: a sign, a bracket or a line feed.
-ghost use Rattle.std.specs.Prelude.{◌≡◌, ◌<◌};
+ghost use Rattle.std.specs.Prelude.{◌≡◌, ◌<◌, eqb};
 ghost use Rattle.scanner.specs.Look as place;
-ghost use Rattle.formula.specs.Formulas.{goes_on, operand_at, closed_of, fed_of};
+ghost use Rattle.formula.specs.Formulas.{sign_at, operand_at, ended_of, closed_of, fed_of};
 
-use crate::parsed::{Parsed, same, stuck};
-use scanner::reader::{look, past_byte, skip};
+use crate::parsed::Parsed;
+use scanner::reader::{next_is, skip};
+use scanner::token::Stuck;
 
 const CLOSE: u8 = b')';
 
 const FEED: u8 = b'\n';
 
-// Whether a sign comes next.
-pub fn goes_on(s: &[u8], p: Parsed, sign: u32) -> bool
-    ensures { result ≡ goes_on s.now p sign }
+// Whether this sign comes next.
+pub fn goes_on(s: &[u8], at: usize, sign: u8) -> bool
+    ensures { result ≡ eqb (sign_at s.now at) sign }
 {
-    if p.bad {
-        return false;
-    }
-    let at = p.at;
-    look(s, skip(s, at)) == sign
+    next_is(s, skip(s, at), sign)
 }
 
 // The place of the operand after the sign that comes next.
@@ -29,45 +26,27 @@ pub fn operand_at(s: &[u8], at: usize) -> usize
     skip(s, skip(s, at) + 1)
 }
 
+// The byte after a formula, which is asked for at a place.
+fn ended(s: &[u8], p: Parsed, at: usize, b: u8) -> Result<Parsed, Stuck>
+    ensures { result ≡ ended_of s.now p at b }
+{
+    if next_is(s, at, b) {
+        Ok(Parsed { at: at + 1, ..p })
+    } else {
+        Err(Stuck(skip(s, p.at)))
+    }
+}
+
 // The bracket after a formula.
-pub fn closed(s: &[u8], p: Parsed) -> Parsed
+pub fn closed(s: &[u8], p: Parsed) -> Result<Parsed, Stuck>
     ensures { result ≡ closed_of s.now p }
 {
-    if p.bad {
-        return same(p);
-    }
-    let at = p.at;
-    let last = skip(s, at);
-    let end = past_byte(s, last, CLOSE);
-    if last < end {
-        return Parsed {
-            bad: p.bad,
-            at: end,
-            point: p.point,
-            gates: p.gates,
-            known: p.known,
-        };
-    }
-    stuck(last)
+    ended(s, p, skip(s, p.at), CLOSE)
 }
 
 // The line feed after a formula, before which no space may stand.
-pub fn fed(s: &[u8], p: Parsed) -> Parsed
+pub fn fed(s: &[u8], p: Parsed) -> Result<Parsed, Stuck>
     ensures { result ≡ fed_of s.now p }
 {
-    if p.bad {
-        return same(p);
-    }
-    let at = p.at;
-    let end = past_byte(s, at, FEED);
-    if at < end {
-        return Parsed {
-            bad: p.bad,
-            at: end,
-            point: p.point,
-            gates: p.gates,
-            known: p.known,
-        };
-    }
-    stuck(skip(s, at))
+    ended(s, p, p.at, FEED)
 }

@@ -1,6 +1,7 @@
 -- What stands at a place of a text, and the places past a word and past one space. Assumes nothing.
-use Rattle.std.specs.Prelude.{ℕ, suc, ◌+◌, cond, List, [], ◌∷◌, ltb, eqb, length, get_or, drop}
+use Rattle.std.specs.Prelude.{ℕ, suc, ◌+◌, ◌-◌, cond, Option, None, Some, List, [], ◌∷◌, ltb, eqb, length, get_or, drop}
 use Prim.Native.Char.{code}
+use Rattle.scope.specs.Parsing.{is_digit}
 
 -- a number that is no byte
 abbrev pub end : ℕ
@@ -9,6 +10,15 @@ end = 256
 -- what stands at a place of the text: the byte, or a number that is no byte
 unfoldable pub look : List ℕ → ℕ → ℕ
 look s i = cond (ltb i (length s)) (get_or s i 0) end
+
+-- as the code has it: a byte, or none
+abbrev pub byte_of : Option ℕ → ℕ
+byte_of None = end
+byte_of (Some b) = b
+
+-- the digit that stands at a place, if one does
+unfoldable pub digit : List ℕ → ℕ → Option ℕ
+digit s i = cond (is_digit (look s i)) (Some (look s i - code "0")) None
 
 -- how many bytes two lists have in common from the front on
 unfoldable pub shared : List ℕ → List ℕ → ℕ

@@ -1,44 +1,29 @@
-// The reader of typed texts: it stands at a place, and moves on past what is asked for there. Its functions are thin: the work is
-// in `byte_at`, `same_byte` and `same_bytes`, which take plain slices, and callers use `look`, `past_byte`, `past_word` and `skip`,
-// which take them too.
-ghost use Rattle.std.specs.Prelude.{[], ◌∷◌, ◌≡◌, ◌+◌, ◌<◌, ◌^◌};
+// The reader of typed texts: it stands at a place, and moves on past what is asked for there. Its methods are thin: the work is in
+// `byte_at` and `same_bytes`, which take plain slices, and callers use `look`, `past_byte`, `past_word` and `skip`, which take them too.
+ghost use Rattle.std.specs.Prelude.{[], ◌∷◌, ◌≡◌, ◌+◌, ◌<◌, ◌^◌, eqb};
 ghost use Rattle.scanner.specs.Look as specs;
 
-use words::convert::from_byte;
-
 // It holds the lent text and a position.
-#[derive(Drop)]
+#[derive(Clone, Copy)]
 pub struct Reader<'a> {
     pub text: &'a [u8],
     pub at: usize,
 }
 
-// no byte
-pub const END: u32 = 256;
-
 const SPACE: u8 = b' ';
 
 // What stands at a place of a text.
-fn byte_at(text: &[u8], at: usize) -> u32
-    ensures { result ≡ specs.look text.now at }
+fn byte_at(text: &[u8], at: usize) -> Option<u8>
+    ensures { specs.byte_of result ≡ specs.look text.now at }
 {
-    if at < text.len() {
-        text[at] as u32
-    } else {
-        END
-    }
+    text.get(at).copied()
 }
 
-// 1 if a byte stands there, else 0; the place past it is a number.
-fn same_byte(text: &[u8], at: usize, b: u8) -> usize
-    ensures value { result ≡ specs.standing text.now at (b ∷ []) }
-    ensures fits { at + result < 2 ^ 64 }
+// Whether this byte stands there.
+pub fn next_is(text: &[u8], at: usize, b: u8) -> bool
+    ensures { result ≡ eqb (specs.look text.now at) b }
 {
-    if byte_at(text, at) == from_byte(b) {
-        1
-    } else {
-        0
-    }
+    byte_at(text, at) == Some(b)
 }
 
 // How many bytes of a word stand from there on; the place past them is a number.
@@ -46,69 +31,65 @@ fn same_bytes(text: &[u8], at: usize, word: &[u8]) -> usize
     ensures value { result ≡ specs.standing text.now at word.now }
     ensures fits { at + result < 2 ^ 64 }
 {
-    let mut i = 0;
-    while i < word.len() {
-        if byte_at(text, at + i) != from_byte(word[i]) {
+    for (i, b) in word.iter().enumerate() {
+        if !next_is(text, at + i, *b) {
             return i;
         }
-        i += 1;
     }
-    i
+    word.len()
 }
 
-// A reader at a place.
-pub fn new<'a>(text: &'a [u8], at: usize) -> Reader<'a>
-    ensures { (result.text ≡ text.entry) × (result.at ≡ at) }
-{
-    Reader { text, at }
-}
-
-// What stands where the reader is.
-fn next<'a>(r: Reader<'a>) -> u32
-    ensures { result ≡ specs.look r.entry.text.now r.entry.at }
-{
-    byte_at(r.text, r.at)
-}
-
-// Past a byte, if it stands here.
-fn pass_byte<'a>(r: Reader<'a>, b: u8) -> Reader<'a>
-    ensures { (result.text ≡ r.entry.text) × (result.at ≡ specs.past r.entry.text.now r.entry.at (b ∷ [])) }
-{
-    Reader {
-        text: r.text,
-        at: r.at + same_byte(r.text, r.at, b),
+impl<'a> Reader<'a> {
+    pub fn new(text: &'a [u8], at: usize) -> Reader<'a>
+        ensures { (result.text ≡ text.entry) × (result.at ≡ at) }
+    {
+        Reader { text, at }
     }
-}
 
-// Past as much of a word as stands here.
-fn pass_word<'a, 'w>(r: Reader<'a>, word: &'w [u8]) -> Reader<'a>
-    ensures { (result.text ≡ r.entry.text) × (result.at ≡ specs.past r.entry.text.now r.entry.at word.now) }
-{
-    Reader {
-        text: r.text,
-        at: r.at + same_bytes(r.text, r.at, word),
+    // What stands where the reader is.
+    fn peek(self) -> Option<u8>
+        ensures { specs.byte_of result ≡ specs.look self.entry.text.now self.entry.at }
+    {
+        byte_at(self.text, self.at)
+    }
+
+    // Past as much of a word as stands here.
+    fn pass_word(self, word: &[u8]) -> Reader<'a>
+        ensures { (result.text ≡ self.entry.text) × (result.at ≡ specs.past self.entry.text.now self.entry.at word.now) }
+    {
+        Reader {
+            at: self.at + same_bytes(self.text, self.at, word),
+            ..self
+        }
+    }
+
+    // Past a byte, if it stands here.
+    fn pass_byte(self, b: u8) -> Reader<'a>
+        ensures { (result.text ≡ self.entry.text) × (result.at ≡ specs.past self.entry.text.now self.entry.at (b ∷ [])) }
+    {
+        self.pass_word(&[b])
     }
 }
 
 // What stands at a place of a text. The parameters are a plain slice and a number, here and below.
-pub fn look(text: &[u8], at: usize) -> u32
-    ensures { result ≡ specs.look text.now at }
+pub fn look(text: &[u8], at: usize) -> Option<u8>
+    ensures { specs.byte_of result ≡ specs.look text.now at }
 {
-    next(new(text, at))
+    Reader::new(text, at).peek()
 }
 
 // The place that a reader comes to from there, past a byte if it stands there.
 pub fn past_byte(text: &[u8], at: usize, b: u8) -> usize
     ensures { result ≡ specs.past text.now at (b ∷ []) }
 {
-    pass_byte(new(text, at), b).at
+    Reader::new(text, at).pass_byte(b).at
 }
 
 // The same, past as much of a word as stands there.
 pub fn past_word(text: &[u8], at: usize, word: &[u8]) -> usize
     ensures { result ≡ specs.past text.now at word.now }
 {
-    pass_word(new(text, at), word).at
+    Reader::new(text, at).pass_word(word).at
 }
 
 // The next significant place.

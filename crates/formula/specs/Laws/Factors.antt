@@ -1,5 +1,5 @@
 -- What the steps over a factor give: a not, a bracket, or a single number. Assumes nothing.
-use Rattle.std.specs.Prelude.{ℕ, ◌+◌, ◌-◌, ◌<◌, Bool, true, false, ◌||◌, List, [], ◌∷◌, ◌++◌, ◌≢◌, ◌⊎◌, ◌≡◌, eqb, leb, length}
+use Rattle.std.specs.Prelude.{ℕ, ◌+◌, ◌-◌, ◌≤◌, ◌<◌, Bool, true, false, cond, ◌||◌, Result, Ok, Err, List, [], ◌∷◌, ◌++◌, ◌≢◌, ◌⊎◌, ◌≡◌, eqb, leb, length}
 use Prim.Native.Char.{code}
 use native.Mathlib.Omega.{arith}
 use Rattle.std.proofs.Common.{append_assoc, append-nil, inl, inr, ⊎_elim, sym, ap, subst, ◌∙◌, eqb-true}
@@ -13,9 +13,10 @@ use Rattle.scope.proofs.Laws.Tests.{clash}
 use Rattle.words.specs.Entries.{Kept}
 use Rattle.scanner.specs.Look.{end, look, skip}
 use Rattle.scanner.specs.Tokens.{Came}
-use Rattle.formula.specs.Formulas.{Built, OrsCome, LevelRead, Numbered, AtomRead, Asked, goes_deeper, not_sign, open_sign, and_sign, or_sign, sign_at, Ends, gated, Gated, bad_at, moved, closed_of}
+use Rattle.formula.specs.Formulas.{Built, OrsCome, LevelStuck, Good, LevelRead, Numbered, AtomRead, Asked, goes_deeper, not_sign, open_sign, and_sign, or_sign, sign_at, gated, Gated, moved, ended_of, closed_of}
 use Rattle.formula.specs.declared.parsed.Parsed.{Parsed}
-use Rattle.formula.specs.declared.parsed.Points.{Points}
+use Rattle.formula.specs.declared.points.Points.{Points}
+use Rattle.scanner.specs.declared.token.Stuck.{Stuck}
 use Rattle.scanner.specs.declared.token.Token.{Token}
 use Rattle.scanner.specs.Laws.Walks.{stands, came_came, came_stuck}
 use Rattle.formula.specs.Laws.Signs.{skip_least, skip_within, close_walk, close_stuck, not_walk, bracket_walk, not_deep, bracket_deep, switch_walk, fault_walk, operand_stuck}
@@ -38,125 +39,85 @@ deeper_open b e f = ⊎_elim (λ n. absurd (f n)) (λ o. o) (deeper_is b e)
 pub deeper_byte : (b : ℕ) → goes_deeper b ≡ true → b < end
 deeper_byte b e = ⊎_elim (λ n. omega arith) (λ o. omega arith) (deeper_is b e)
 
-module _ {s : List ℕ} {c : Points} {g at : ℕ} (asked : Asked s c g at) (deeper : goes_deeper (look s at) ≡ true) where
+module _ {s : List ℕ} {at : ℕ} (deeper : goes_deeper (look s at) ≡ true) where
   -- what is asked of the place after it
-  pub inner_asked : Asked s c g (skip s (at + 1))
-  inner_asked = record {
+  pub inner_asked : {g : ℕ} → Asked s g at → Asked s g (skip s (at + 1))
+  inner_asked asked = record {
     within = skip_within s (at + 1) (omega (arith, stands s at (deeper_byte (look s at) deeper)));
     short = asked.short;
     few = omega (arith, asked.few, skip_least s (at + 1));
-    switches = asked.switches;
-    faults = asked.faults;
   }
 
   -- it would be too deep
-  pub too_deep : {depth : ℕ} {r : Parsed} {u : List ℕ} → depth ≡ 0 → r ≡ bad_at at → LevelRead factor s depth c g at r u u
-  too_deep d z = rw z record {
-    within = asked.within;
-    few = omega arith;
-    bad = λ t o n. ⊎_elim (not_deep s o at (omega arith) asked.within) (bracket_deep s o at (omega arith) asked.within) (deeper_is (look s at) deeper);
-    good = λ t. clash refl t;
-  }
+  pub too_deep : {depth : ℕ} → at ≤ length s → depth ≡ 0 → LevelStuck factor s depth at at
+  too_deep within d o n = ⊎_elim (not_deep s o at (omega arith) within) (bracket_deep s o at (omega arith) within) (deeper_is (look s at) deeper)
 
-module _ {s : List ℕ} {depth : ℕ} {c : Points} {g at : ℕ} (asked : Asked s c g at) {p r : Parsed} {u v : List ℕ} (deep : depth ≢ 0) where
+module _ {s : List ℕ} {depth : ℕ} (at : ℕ) (deep : depth ≢ 0) where
   -- a factor after `!`
-  pub not_read : {w : List ℕ} → look s at ≡ not_sign → LevelRead factor s (depth - 1) c g (skip s (at + 1)) p u v → Gated c record { kind = code "N"; left = p.point; right = 0 } p.known p r v w → LevelRead factor s depth c g at r u w
-  unfolding nested operand_done operators known point gates_of
-  not_read {w} e i k = go p.bad refl
-    where
-      under : (o : Around factor) → nested o + depth ≡ most_nested → nested (bang o) + (depth - 1) ≡ most_nested
-      under o n = omega arith
+  module _ (e : look s at ≡ not_sign) where
+    after_not : (o : Around factor) → nested o + depth ≡ most_nested → Came s (operand o) at (operand (bang o)) (skip s (at + 1)) × (nested (bang o) + (depth - 1) ≡ most_nested)
+    unfolding nested
+    after_not o n = (not_walk s o at (omega arith) e, omega arith)
 
-      to : (o : Around factor) → nested o + depth ≡ most_nested → Came s (operand o) at (operand (bang o)) (skip s (at + 1))
-      to o n = not_walk s o at (omega arith) e
+    pub not_stuck : {n : ℕ} → LevelStuck factor s (depth - 1) (skip s (at + 1)) n → LevelStuck factor s depth at n
+    not_stuck k o n = let (to, under) = after_not o n in came_stuck to (k (bang o) under)
 
-      go : (b : Bool) → p.bad ≡ b → LevelRead factor s depth c g at r u w
-      go true b = rw (k.stays b) record {
-        within = i.within;
-        few = i.few;
-        bad = λ t o n. came_stuck (to o n) (i.bad b (bang o) (under o n));
-        good = λ t. clash b t;
-      }
-      go false b =
-          let x : Formula = (i.good b).formula in
-          let h : Built c g (skip s (at + 1)) x p = (i.good b).built in
-          let xs : List Gate = gates_of c.switches c.faults g x in
-          let l : Gate = Gate.not (point c.switches c.faults g x) in
-          let ahead : operators x + (skip s (at + 1)) < p.at = h.ahead in
-          let count : p.gates ≡ g + operators x = h.gates in
-          let more : p.gates + 1 ≡ g + operators (Formula.not x) = omega arith in
-          let m : Built c g at (Formula.not x) (gated c p.known p) = record { ahead = omega (arith, skip_least s (at + 1)); gates = more; known = h.known; point = ap (λ n. c.switches + c.faults + n) more } in
-          rw (k.adds b) record {
-            within = i.within;
-            few = built_few asked m i.within;
-            bad = λ t. clash t refl;
-            good = λ t. record {
-              formula = Formula.not x;
-              came = λ o n. came_came (to o n) ((i.good b).came (bang o) (under o n));
-              built = m;
-              filled = λ t o.
-                  let t₁ : Sheet = sheet t.switches t.faults (t.gates ++ xs) t.rules t.wishes in
-                  subst (λ gs. Kept (sheet t.switches t.faults gs t.rules t.wishes) w) (append_assoc t.gates xs (l ∷ [])) (k.puts b t₁ l (ap (λ n. code "N" ∷ n ∷ 0 ∷ []) h.point) ((i.good b).filled t o));
-            };
-          }
+    pub not_read : {c : Points} {g : ℕ} {p r : Parsed} {u v w : List ℕ} → Asked s g at → Good factor s (depth - 1) c g (skip s (at + 1)) p u v → Gated c (Gate.not p.point) p.known p r v w → Good factor s depth c g at r u w
+    unfolding nested operand_done operators known point gates_of
+    not_read {c} {g} {p} {w = w} asked i k =
+        let x : Formula = i.formula in
+        let h : Built c g (skip s (at + 1)) x p = i.built in
+        let xs : List Gate = gates_of c.switches c.faults g x in
+        let ahead : operators x + (skip s (at + 1)) < p.at = h.ahead in
+        let count : p.gates ≡ g + operators x = h.gates in
+        let more : p.gates + 1 ≡ g + operators (Formula.not x) = omega arith in
+        let m : Built c g at (Formula.not x) (gated c p.known p) = record { ahead = omega (arith, skip_least s (at + 1)); gates = more; known = h.known; point = ap (λ n. c.switches + c.faults + n) more } in
+        rw k.is record {
+          formula = Formula.not x;
+          within = i.within;
+          few = built_few asked m i.within;
+          came = λ o n. let (to, under) = after_not o n in came_came to (i.came (bang o) under);
+          built = m;
+          filled = λ t o.
+              let t₁ : Sheet = sheet t.switches t.faults (t.gates ++ xs) t.rules t.wishes in
+              let gs : (t.gates ++ xs) ++ Gate.not p.point ∷ [] ≡ t.gates ++ (xs ++ Gate.not (point c.switches c.faults g x) ∷ []) = append_assoc t.gates xs (Gate.not p.point ∷ []) ∙ ap (λ n. t.gates ++ (xs ++ Gate.not n ∷ [])) h.point in
+              subst (λ gs. Kept (sheet t.switches t.faults gs t.rules t.wishes) w) gs (k.puts t₁ (i.filled t o));
+        }
 
   -- a formula in brackets
-  pub bracket_read : look s at ≡ open_sign → LevelRead ors s (depth - 1) c g (skip s (at + 1)) p u v → Ends s p and_sign → Ends s p or_sign → r ≡ closed_of s p → LevelRead factor s depth c g at r u v
-  unfolding nested closed_of
-  bracket_read e i no-and no_or k = go p.bad refl
-    where
-      under : (o : Around factor) → nested o + depth ≡ most_nested → nested (bracket o) + (depth - 1) ≡ most_nested
-      under o n = omega arith
+  module _ (e : look s at ≡ open_sign) where
+    after_open : (o : Around factor) → nested o + depth ≡ most_nested → Came s (operand o) at (operand (head (first (bracket o)))) (skip s (at + 1)) × (nested (bracket o) + (depth - 1) ≡ most_nested)
+    unfolding nested
+    after_open o n = (bracket_walk s o at (omega arith) e, omega arith)
 
-      to : (o : Around factor) → nested o + depth ≡ most_nested → Came s (operand o) at (operand (head (first (bracket o)))) (skip s (at + 1))
-      to o n = bracket_walk s o at (omega arith) e
+    pub bracket_stuck : {n : ℕ} → LevelStuck ors s (depth - 1) (skip s (at + 1)) n → LevelStuck factor s depth at n
+    bracket_stuck k o n = let (to, under) = after_open o n in came_stuck to (k (bracket o) under)
 
+    module _ {c : Points} {g : ℕ} {p : Parsed} {u v : List ℕ} (i : Good ors s (depth - 1) c g (skip s (at + 1)) p u v) where
       -- the formula, and what it is a part of where it ends
-      read : (b : p.bad ≡ false) (o : Around factor) → nested o + depth ≡ most_nested → OrsCome s (bracket o) (skip s (at + 1)) (i.good b).formula p.at
-      read b o n = (i.good b).came (bracket o) (under o n)
+      read : (o : Around factor) → nested o + depth ≡ most_nested → OrsCome s (bracket o) (skip s (at + 1)) i.formula p.at
+      read o n = i.came (bracket o) (after_open o n).1
 
-      to_end : (b : p.bad ≡ false) (o : Around factor) (n : nested o + depth ≡ most_nested) → Came s (operand o) at (after (read b o n).inner (read b o n).last) p.at
-      to_end b o n = came_came (to o n) (read b o n).came
+      to_end : (o : Around factor) (n : nested o + depth ≡ most_nested) → Came s (operand o) at (after (read o n).inner (read o n).last) p.at
+      to_end o n = came_came (after_open o n).0 (read o n).came
 
-      shut : (b : p.bad ≡ false) → (d : Bool) → eqb (sign_at s p.at) (code ")") ≡ d → LevelRead factor s depth c g at r u v
-      shut b true d =
+      shut : (d : Bool) → eqb (sign_at s p.at) (code ")") ≡ d → sign_at s p.at ≢ and_sign → sign_at s p.at ≢ or_sign → LevelRead factor s depth c g at (cond d (Ok (moved p (skip s p.at + 1))) (Err record { 0 = skip s p.at })) u v
+      shut true d no-and no_or =
           let sign : sign_at s p.at ≡ code ")" = eqb-true (sign_at s p.at) (code ")") d in
-          let z : r ≡ moved p (skip s p.at + 1) = k ∙ rw (b, d) refl in
           let w : skip s p.at < length s = stands s (skip s p.at) (omega arith) in
-          let x : Formula = (i.good b).formula in
-          let h : Built c g (skip s (at + 1)) x p = (i.good b).built in
-          let ahead : operators x + (skip s (at + 1)) < p.at = h.ahead in
-          let m : Built c g at x (moved p (skip s p.at + 1)) = record { ahead = omega (arith, skip_least s (at + 1), skip_least s p.at); gates = h.gates; known = h.known; point = h.point } in
-          rw z record {
+          record {
+            formula = i.formula;
             within = omega arith;
-            few = built_few asked m (omega arith);
-            bad = λ t. clash t b;
-            good = λ t. record {
-              formula = x;
-              came = λ o n. subst (λ y. Came s (operand o) at (operand_done o y) (skip s p.at + 1)) (read b o n).whole (came_came (to_end b o n) (close_walk s (read b o n).inner (read b o n).last p.at o (read b o n).around sign));
-              built = m;
-              filled = (i.good b).filled;
-            };
-          }
-      shut b false d =
-          let z : r ≡ bad_at (skip s p.at) = k ∙ rw (b, d) refl in
-          rw z record {
-            within = skip_within s p.at i.within;
-            few = omega arith;
-            bad = λ t o n. came_stuck (to_end b o n) (close_stuck s (read b o n).inner (read b o n).last p.at o (read b o n).around i.within (no-and b) (no_or b) (eqb-false (sign_at s p.at) (code ")") d));
-            good = λ t. clash refl t;
-          }
-
-      go : (b : Bool) → p.bad ≡ b → LevelRead factor s depth c g at r u v
-      go true b =
-          let z : r ≡ p = k ∙ rw b refl in
-          rw z record {
-            within = i.within;
             few = i.few;
-            bad = λ t o n. came_stuck (to o n) (i.bad b (bracket o) (under o n));
-            good = λ t. clash b t;
+            came = λ o n. subst (λ x. Came s (operand o) at (operand_done o x) (skip s p.at + 1)) (read o n).whole (came_came (to_end o n) (close_walk s (read o n).inner (read o n).last p.at o (read o n).around sign));
+            built = record { ahead = omega (arith, i.built.ahead, skip_least s p.at, skip_least s (at + 1)); gates = i.built.gates; known = i.built.known; point = i.built.point };
+            filled = i.filled;
           }
-      go false b = shut b (eqb (sign_at s p.at) (code ")")) refl
+      shut false d no-and no_or = λ o n. came_stuck (to_end o n) (close_stuck s (read o n).inner (read o n).last p.at o (read o n).around i.within no-and no_or (eqb-false (sign_at s p.at) (code ")") d))
+
+      pub bracket_read : sign_at s p.at ≢ and_sign → sign_at s p.at ≢ or_sign → LevelRead factor s depth c g at (closed_of s p) u v
+      unfolding ended_of
+      bracket_read = shut (eqb (sign_at s p.at) (code ")")) refl
 
 -- ---- a single number
 
@@ -164,55 +125,37 @@ neither : (a b : Bool) → (a || b) ≡ false → (a ≡ false) × (b ≡ false)
 neither true b e = clash refl e
 neither false b e = (refl, e)
 
-module _ {s : List ℕ} {c : Points} {g at : ℕ} (asked : Asked s c g at) {r : Parsed} where
+module _ {s : List ℕ} (c : Points) {g at : ℕ} (asked : Asked s g at) where
   -- a switch or a fault: the walk goes on with the number of its slot, and no gate is added
-  atom_read : {before most : ℕ} (i : Numbered s (at + 1) before most g r) (x : Formula) (slot : Around factor → Slot) → ((k : Around factor) → zero_ok (slot k) ≡ false) → ((k : Around factor) → number_done (slot k) i.number.value ≡ operand_done k x) → ((k : Around factor) → Came s (operand k) at (digits (slot k)) (at + 1))
-      → operators x ≡ 0 → gates_of c.switches c.faults g x ≡ [] → point c.switches c.faults g x ≡ before + i.number.value → known c.switches c.faults x ≡ leb i.number.value most → AtomRead s c g at r
-  atom_read i x slot none done to no-operators no_gates point_is Known-is depth u = go n.bad refl
-    where
-      n : Token
-      n = i.number
-
-      any : Around factor
-      any = head (first (line (typed 0 0 [] [])))
-
-      go : (b : Bool) → n.bad ≡ b → LevelRead factor s depth c g at r u u
-      go true b = rw i.is record {
-        within = (i.read.bad b (slot any) (none any)).within;
+  atom_read : (before most : ℕ) (x : ℕ → Formula) (slot : Around factor → Slot) → ((k : Around factor) → zero_ok (slot k) ≡ false) → ((k : Around factor) (n : ℕ) → number_done (slot k) n ≡ operand_done k (x n)) → ((k : Around factor) → Came s (operand k) at (digits (slot k)) (at + 1))
+      → ((n : ℕ) → (operators (x n) ≡ 0) × (gates_of c.switches c.faults g (x n) ≡ []) × (point c.switches c.faults g (x n) ≡ before + n) × (known c.switches c.faults (x n) ≡ leb n most))
+      → (r : Result Parsed Stuck) → Numbered s (at + 1) before most g r → AtomRead s c g at r
+  atom_read before most x slot none done to single (Err e) h depth u = λ k m. came_stuck (to k) (h (slot k) (none k))
+  atom_read before most x slot none done to single (Ok p) h depth u =
+      let n : Token = h.number in
+      let (no-operators, no_gates, point_is, known_is) = single n.value in
+      let any : Around factor = head (first (line (typed 0 0 [] []))) in
+      let l : at + 1 < n.at = (h.read.came (slot any) (none any)).ahead in
+      rw h.is record {
+        formula = x n.value;
+        within = (h.read.came (slot any) (none any)).within;
         few = omega (arith, asked.few, asked.within, asked.short);
-        bad = λ t k e. came_stuck (to k) (i.read.bad b (slot k) (none k));
-        good = λ t. clash b t;
+        came = λ k e. subst (λ st. Came s (operand k) at st n.at) (done k n.value) (came_came (to k) (h.read.came (slot k) (none k)));
+        built = record { ahead = omega arith; gates = omega arith; known = sym known_is; point = sym point_is };
+        filled = λ t o. rw (no_gates, append-nil t.gates) o;
       }
-      go false b =
-          let l : at + 1 < n.at = (i.read.good b (slot any) (none any)).ahead in
-          rw i.is record {
-            within = (i.read.good b (slot any) (none any)).within;
-            few = omega (arith, asked.few, asked.within, asked.short);
-            bad = λ t. clash t b;
-            good = λ t. record {
-              formula = x;
-              came = λ k e. subst (λ st. Came s (operand k) at st n.at) (done k) (came_came (to k) (i.read.good b (slot k) (none k)));
-              built = record { ahead = omega arith; gates = omega arith; known = sym Known-is; point = sym point_is };
-              filled = λ t o. rw (no_gates, append-nil t.gates) o;
-            };
-          }
 
-  pub switch_read : look s at ≡ code "s" → Numbered s (at + 1) 0 c.switches g r → AtomRead s c g at r
+  pub switch_read : look s at ≡ code "s" → (r : Result Parsed Stuck) → Numbered s (at + 1) 0 c.switches g r → AtomRead s c g at r
   unfolding number_done operators gates_of point known
-  switch_read e i = atom_read i (Formula.switch i.number.value) parsing.switch (λ k. refl) (λ k. refl) (λ k. switch_walk s k at e) refl refl (omega arith) refl
+  switch_read e = atom_read 0 c.switches Formula.switch parsing.switch (λ k. refl) (λ k n. refl) (λ k. switch_walk s k at e) (λ n. (refl, refl, omega arith, refl))
 
-  pub fault_read : look s at ≡ code "f" → Numbered s (at + 1) c.switches c.faults g r → AtomRead s c g at r
+  pub fault_read : look s at ≡ code "f" → (r : Result Parsed Stuck) → Numbered s (at + 1) c.switches c.faults g r → AtomRead s c g at r
   unfolding number_done operators gates_of point known
-  fault_read e i = atom_read i (Formula.fault i.number.value) parsing.fault (λ k. refl) (λ k. refl) (λ k. fault_walk s k at e) refl refl refl refl
+  fault_read e = atom_read c.switches c.faults Formula.fault parsing.fault (λ k. refl) (λ k n. refl) (λ k. fault_walk s k at e) (λ n. (refl, refl, refl, refl))
 
   -- no operand begins so
-  pub no_atom : look s at ≢ code "s" → look s at ≢ code "f" → goes_deeper (look s at) ≡ false → r ≡ bad_at at → AtomRead s c g at r
+  pub no_atom : look s at ≢ code "s" → look s at ≢ code "f" → goes_deeper (look s at) ≡ false → AtomRead s c g at (Err record { 0 = at })
   unfolding goes_deeper
-  no_atom p q e z depth u =
+  no_atom p q e depth u =
       let (v, w) = neither (eqb (look s at) not_sign) (eqb (look s at) open_sign) e in
-      rw z record {
-        within = asked.within;
-        few = omega arith;
-        bad = λ t k n. operand_stuck s k at asked.within p q (eqb-false (look s at) not_sign v) (eqb-false (look s at) open_sign w);
-        good = λ t. clash refl t;
-      }
+      λ k n. operand_stuck s k at asked.within p q (eqb-false (look s at) not_sign v) (eqb-false (look s at) open_sign w)

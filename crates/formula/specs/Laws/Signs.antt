@@ -11,7 +11,7 @@ use Rattle.scope.specs.Typed.{Formula, Typed, ands, factor, most_nested}
 use Rattle.scope.specs.Parsing.{Around, line, bracket, first, bar, head, amp, bang, nested, digits, rule_line, spaced, operand, after, sign, add_rule, operand_done, joined_or, outside, closed, fed, nested_more, move, step, at_end, walk}
 use Rattle.scope.specs.Parsing as parsing
 use Rattle.scanner.specs.Look.{end, look, skip}
-use Rattle.scanner.specs.Tokens.{Stuck, Came}
+use Rattle.scanner.specs.Tokens.{StuckAt, Came}
 use Rattle.formula.specs.Formulas.{sign_at, operand_at, not_sign, open_sign, and_sign, or_sign}
 use Rattle.scanner.specs.Laws.Walks.{stands, came, stops, came_stuck, alike}
 
@@ -101,24 +101,24 @@ module _ (s : List ℕ) (a : Around ands) (x : Formula) (n : ℕ) where
       record { ahead = omega (arith, skip_least s n); within = c.within; walk = sign_spaced s a x n (λ f. omega arith) ∙ c.walk }
 
   -- no sign fits, nor a line feed
-  sign_stuck : n ≤ length s → (look s n ≢ space → step (after a x) (look s n) ≡ none) → step (sign a x) (sign_at s n) ≡ none → Stuck s (after a x) n (skip s n)
+  sign_stuck : n ≤ length s → (look s n ≢ space → step (after a x) (look s n) ≡ none) → step (sign a x) (sign_at s n) ≡ none → StuckAt s (after a x) n (skip s n)
   unfolding step move at_end
   sign_stuck h f e = go (eqb (look s n) space) refl
     where
-      go : (b : Bool) → eqb (look s n) space ≡ b → Stuck s (after a x) n (skip s n)
+      go : (b : Bool) → eqb (look s n) space ≡ b → StuckAt s (after a x) n (skip s n)
       go true g =
           let i : look s n ≡ space = eqb-true (look s n) space g in
           let j : skip s n ≡ n + 1 = skip_space s n i in
           let c : Came s (after a x) n (sign a x) (n + 1) = came s (after a x) (sign a x) n (omega arith) (rw i) in
-          subst (λ m. Stuck s (after a x) n m) (sym j) (came_stuck c (stops s (sign a x) (n + 1) c.within (subst (λ m. step (sign a x) (look s m) ≡ none) j e) refl))
-      go false g = let i : look s n ≢ space = eqb-false (look s n) space g in subst (λ m. Stuck s (after a x) n m) (sym (skip_here s n i)) (stops s (after a x) n h (f i) refl)
+          subst (λ m. StuckAt s (after a x) n m) (sym j) (came_stuck c (stops s (sign a x) (n + 1) c.within (subst (λ m. step (sign a x) (look s m) ≡ none) j e) refl))
+      go false g = let i : look s n ≢ space = eqb-false (look s n) space g in subst (λ m. StuckAt s (after a x) n m) (sym (skip_here s n i)) (stops s (after a x) n h (f i) refl)
 
   -- with no space before it the sign stands here
   not_here : (b : ℕ) → look s n ≢ space → sign_at s n ≢ b → eqb (look s n) b ≡ false
   not_here b f g = ne_eqb (look s n) b (subst (λ m. look s m ≢ b) (skip_here s n f) g)
 
   -- a bracket that is not closed
-  pub close_stuck : (k : Around factor) → outside a ≡ bracket k → n ≤ length s → sign_at s n ≢ and_sign → sign_at s n ≢ or_sign → sign_at s n ≢ code ")" → Stuck s (after a x) n (skip s n)
+  pub close_stuck : (k : Around factor) → outside a ≡ bracket k → n ≤ length s → sign_at s n ≢ and_sign → sign_at s n ≢ or_sign → sign_at s n ≢ code ")" → StuckAt s (after a x) n (skip s n)
   unfolding step move
   close_stuck k o h p q r = sign_stuck h here (rw (ne_eqb (sign_at s n) and_sign p, ne_eqb (sign_at s n) or_sign q, ne_eqb (sign_at s n) (code ")") r))
     where
@@ -135,7 +135,7 @@ module _ (s : List ℕ) (a : Around ands) (x : Formula) (n : ℕ) where
   feed_walk v o e = came s (after a x) (rule_line (add_rule v (joined_or a x))) n (omega arith) (rw (e, o))
 
   -- the formula of a rule is in no bracket, so no `)` fits either
-  pub feed_stuck : (v : Typed) → outside a ≡ line v → n ≤ length s → look s n ≢ line_feed → sign_at s n ≢ and_sign → sign_at s n ≢ or_sign → Stuck s (after a x) n (skip s n)
+  pub feed_stuck : (v : Typed) → outside a ≡ line v → n ≤ length s → look s n ≢ line_feed → sign_at s n ≢ and_sign → sign_at s n ≢ or_sign → StuckAt s (after a x) n (skip s n)
   unfolding step move
   feed_stuck v o h f p q = sign_stuck h here (rw (ne_eqb (sign_at s n) and_sign p, ne_eqb (sign_at s n) or_sign q) (either (eqb (sign_at s n) (code ")"))))
     where
@@ -164,11 +164,11 @@ module _ (s : List ℕ) (k : Around factor) (at : ℕ) where
   bracket_walk h e = deeper (head (first (bracket k))) (omega arith) (rw (e, lt-ltb (nested k) most_nested h))
 
   -- and with none left
-  pub not_deep : most_nested ≤ nested k → at ≤ length s → look s at ≡ not_sign → Stuck s (operand k) at at
+  pub not_deep : most_nested ≤ nested k → at ≤ length s → look s at ≡ not_sign → StuckAt s (operand k) at at
   unfolding step move nested_more at_end
   not_deep h w e = stops s (operand k) at w (rw (e, le-ltb (nested k) most_nested h)) refl
 
-  pub bracket_deep : most_nested ≤ nested k → at ≤ length s → look s at ≡ open_sign → Stuck s (operand k) at at
+  pub bracket_deep : most_nested ≤ nested k → at ≤ length s → look s at ≡ open_sign → StuckAt s (operand k) at at
   unfolding step move nested_more at_end
   bracket_deep h w e = stops s (operand k) at w (rw (e, le-ltb (nested k) most_nested h)) refl
 
@@ -180,6 +180,6 @@ module _ (s : List ℕ) (k : Around factor) (at : ℕ) where
   unfolding step move
   fault_walk e = came s (operand k) (digits (parsing.fault k)) at (omega arith) (rw e)
 
-  pub operand_stuck : at ≤ length s → look s at ≢ code "s" → look s at ≢ code "f" → look s at ≢ not_sign → look s at ≢ open_sign → Stuck s (operand k) at at
+  pub operand_stuck : at ≤ length s → look s at ≢ code "s" → look s at ≢ code "f" → look s at ≢ not_sign → look s at ≢ open_sign → StuckAt s (operand k) at at
   unfolding step move at_end
   operand_stuck w p q r t = stops s (operand k) at w (rw (ne_eqb (look s at) (code "s") p, ne_eqb (look s at) (code "f") q, ne_eqb (look s at) not_sign r, ne_eqb (look s at) open_sign t)) refl

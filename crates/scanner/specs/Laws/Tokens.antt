@@ -2,9 +2,9 @@
 use Prim.Native.Nat.{ℕ, suc, ◌+◌, ◌-◌, ◌*◌, ◌≤◌, ◌<◌}
 use Prim.Native.Char.{code}
 use native.Mathlib.Omega.{arith}
-use Rattle.std.specs.Prelude.{Bool, true, false, cond, List, [], ◌∷◌, ◌≢◌, ◌≡◌, eqb, drop}
+use Rattle.std.specs.Prelude.{Some, None, Result, Ok, Err, Bool, true, false, cond, List, [], ◌∷◌, ◌≢◌, ◌≡◌, eqb, drop}
 use Rattle.std.proofs.Math.Option.{none, some}
-use Rattle.std.proofs.Math.Path.{refl}
+use Rattle.std.proofs.Math.Path.{refl, ap}
 use Rattle.std.proofs.Common.{◌∙◌, ne_eqb}
 use Rattle.std.proofs.Math.ListN.{length, length-drop}
 use Rattle.std.proofs.Math.Seq.{drop-drop}
@@ -12,8 +12,9 @@ use Rattle.scope.specs.Parsing.{Slot, State, stuck, word, digits, second, number
 use Rattle.scope.proofs.Laws.Tests.{clash}
 use Rattle.scope.proofs.Laws.Reached.{digit_byte}
 use Rattle.scope.proofs.Laws.Walked.{number_plain}
-use Rattle.scanner.specs.Look.{look, shared, standing, past}
-use Rattle.scanner.specs.Tokens.{Came, rest, WordRead, NumberRead, NamedRead}
+use Rattle.scanner.specs.Look.{end, look, digit, shared, standing, past}
+use Rattle.scanner.specs.Tokens.{StuckAt, Came, rest, SlotGood, NumberRead, NamedRead}
+use Rattle.scanner.specs.declared.token.Stuck.{Stuck}
 use Rattle.scanner.specs.declared.token.Token.{Token}
 use Rattle.scanner.specs.Laws.Walks.{past_within, came, stops, came_came, came_stuck, alike}
 
@@ -58,97 +59,115 @@ rest_whole : (w : List ℕ) (st : State) → 0 < length w → rest w st ≡ word
 rest_whole [] st h = absurd (omega arith)
 rest_whole (c ∷ w) st h = refl
 
-module _ (s w : List ℕ) (at : ℕ) (within : at ≤ length s) (long : 0 < length w) (r : Token) where
+module _ (s w : List ℕ) (at : ℕ) (within : at ≤ length s) (long : 0 < length w) (st : State) where
   -- the whole word stands, and the walk comes past it
-  pub word_good : length w ≤ standing s at w → r ≡ record { bad = false; at = past s at w; value = 0 } → WordRead s w at r
+  pub word_good : length w ≤ standing s at w → Came s (word w st) at st (past s at w)
   unfolding standing
-  word_good all q = rw q record {
-    good = λ t st. record { ahead = omega arith; within = past_within s at w within; walk = rw (← rest_whole w st long, ← drop-drop (standing s at w) at s) (word_passes st (drop at s) w all) };
-    bad = λ t. clash t refl;
-  }
+  word_good all = record { ahead = omega arith; within = past_within s at w within; walk = rw (← rest_whole w st long, ← drop-drop (standing s at w) at s) (word_passes st (drop at s) w all) }
 
   -- only a part of it stands, and the walk is stuck after that
-  pub word_bad : standing s at w < length w → r ≡ record { bad = true; at = past s at w; value = 0 } → WordRead s w at r
+  pub word_bad : standing s at w < length w → StuckAt s (word w st) at (past s at w)
   unfolding standing
-  word_bad part q = rw q record {
-    good = λ t. clash refl t;
-    bad = λ t st. record {
-      within = past_within s at w within;
-      walk =
-          let n : length s - past s at w ≡ length (drop at s) - standing s at w = omega (arith, length-drop at s) in
-          rw (← rest_whole w st long, n) (word_halts st (drop at s) w part);
-    };
+  word_bad part = record {
+    within = past_within s at w within;
+    walk =
+        let n : length s - past s at w ≡ length (drop at s) - standing s at w = omega (arith, length-drop at s) in
+        rw (← rest_whole w st long, n) (word_halts st (drop at s) w part);
   }
+
+-- ---- digits
+
+-- a byte, or none, as it stands in the text
+pub digit_of_byte : (s : List ℕ) (i b : ℕ) → b ≡ look s i → digit s i ≡ cond (is_digit b) (Some (b - code "0")) None
+unfolding digit
+digit_of_byte s i b e = rw e refl
+
+pub no_digit : (s : List ℕ) (i : ℕ) → end ≡ look s i → digit s i ≡ None
+unfolding digit
+no_digit s i e = rw (← e) refl
+
+pub digit_is : (s : List ℕ) (i n : ℕ) → digit s i ≡ Some n → (is_digit (look s i) ≡ true) × (look s i ≡ code "0" + n) × (n ≤ 9)
+unfolding digit
+digit_is s i n e = go (is_digit (look s i)) refl e
+  where
+    go : (t : Bool) → is_digit (look s i) ≡ t → cond t (Some (look s i - code "0")) None ≡ Some n → (is_digit (look s i) ≡ true) × (look s i ≡ code "0" + n) × (n ≤ 9)
+    go true f e = let m : look s i - code "0" ≡ n = cc in (f, omega (arith, digit_byte (look s i) f), omega (arith, digit_byte (look s i) f))
+    go false f e = cc
+
+pub digit_isnt : (s : List ℕ) (i : ℕ) → digit s i ≡ None → is_digit (look s i) ≡ false
+unfolding digit
+digit_isnt s i e = go (is_digit (look s i)) refl e
+  where
+    go : (t : Bool) → is_digit (look s i) ≡ t → cond t (Some (look s i - code "0")) None ≡ None → is_digit (look s i) ≡ false
+    go true f e = cc
+    go false f e = f
+
+-- a zero is a digit
+no_zero_digit : (b : ℕ) → b ≡ code "0" → is_digit b ≡ false → ⊥
+no_zero_digit b e f = clash (ap is_digit e) f
 
 -- ---- numbers
 
-module _ (s : List ℕ) (zero : Bool) (at : ℕ) (within : at ≤ length s) (r : Token) where
-  -- a zero ends the number, where it may stand
-  pub number_zero : look s at ≡ code "0" → zero ≡ true → r ≡ record { bad = false; at = at + 1; value = 0 } → NumberRead s zero at r
-  unfolding step move
-  number_zero e z q = rw q record {
-    good = λ t slot h. came s (digits slot) (number_done slot 0) at (omega arith) (rw (e, h, z));
-    few = omega arith;
-    bad = λ t. clash t refl;
-  }
+-- a first digit, and more to come
+digit_read : {s : List ℕ} {at n : ℕ} → digit s at ≡ Some n → n ≢ 0 → (slot : Slot) → Came s (digits slot) at (second slot n) (at + 1)
+unfolding step move
+digit_read {s} {at} {n} e first slot =
+    let (d, l, m) = digit_is s at n e in
+    let k : look s at - code "0" ≡ n = omega arith in
+    let z : look s at ≢ code "0" = omega arith in
+    came s (digits slot) (second slot n) at (omega arith) (rw (ne_eqb (look s at) (code "0") z, d, k) refl)
 
+module _ {s : List ℕ} (zero : Bool) {at : ℕ} where
   -- no number begins here
-  number_bad : ((slot : Slot) → zero_ok slot ≡ zero → step (digits slot) (look s at) ≡ none) → r ≡ record { bad = true; at = at; value = 0 } → NumberRead s zero at r
+  number_bad : at ≤ length s → ((slot : Slot) → zero_ok slot ≡ zero → step (digits slot) (look s at) ≡ none) → (slot : Slot) → zero_ok slot ≡ zero → StuckAt s (digits slot) at at
   unfolding at_end
-  number_bad e q = rw q record {
-    good = λ t. clash refl t;
-    few = omega arith;
-    bad = λ t slot h. stops s (digits slot) at within (e slot h) refl;
-  }
+  number_bad within e slot h = stops s (digits slot) at within (e slot h) refl
 
-  pub number_no_zero : look s at ≡ code "0" → zero ≡ false → r ≡ record { bad = true; at = at; value = 0 } → NumberRead s zero at r
+  pub number_none : at ≤ length s → digit s at ≡ None → (slot : Slot) → zero_ok slot ≡ zero → StuckAt s (digits slot) at at
   unfolding step move
-  number_no_zero e z = number_bad (λ slot h. rw (e, h, z))
+  number_none within e = number_bad within (λ slot h. let d : is_digit (look s at) ≡ false = digit_isnt s at e in rw (ne_eqb (look s at) (code "0") (λ f. no_zero_digit (look s at) f d), d))
 
-  pub number_none : look s at ≢ code "0" → is_digit (look s at) ≡ false → r ≡ record { bad = true; at = at; value = 0 } → NumberRead s zero at r
+  -- a zero ends the number, where it may stand
+  pub number_zero : digit s at ≡ Some 0 → zero ≡ true → SlotGood digits s zero at record { at = at + 1; value = 0 }
   unfolding step move
-  number_none e d = number_bad (λ slot h. rw (ne_eqb (look s at) (code "0") e, d))
+  number_zero e z =
+      let (d, l, n) = digit_is s at 0 e in
+      record {
+        came = λ slot h. came s (digits slot) (number_done slot 0) at (omega arith) (rw (l, h, z));
+        few = omega arith;
+      }
 
-  module _ (e : look s at ≢ code "0") (a-digit : is_digit (look s at) ≡ true) where
-    digit_read : (slot : Slot) → Came s (digits slot) at (second slot (look s at - code "0")) (at + 1)
-    unfolding step move
-    digit_read slot = came s (digits slot) (second slot (look s at - code "0")) at (omega (arith, digit_byte (look s at) a-digit)) (rw (ne_eqb (look s at) (code "0") e, a-digit))
+  pub number_no_zero : at ≤ length s → digit s at ≡ Some 0 → zero ≡ false → (slot : Slot) → zero_ok slot ≡ zero → StuckAt s (digits slot) at at
+  unfolding step move
+  number_no_zero within e z = number_bad within (λ slot h. let (d, l, n) = digit_is s at 0 e in rw (l, h, z))
 
+  module _ {n : ℕ} (e : digit s at ≡ Some n) (first : n ≢ 0) where
     -- a byte that is no digit moves on from a first digit as from a number that is complete
-    pub number_one : is_digit (look s (at + 1)) ≡ false → r ≡ record { bad = false; at = at + 1; value = look s at - code "0" } → NumberRead s zero at r
+    pub number_one : digit s (at + 1) ≡ None → SlotGood digits s zero at record { at = at + 1; value = n }
     unfolding step at_end
-    number_one d q = rw q record {
-      good = λ t slot h.
-          let n : ℕ = look s at - code "0" in
-          let c : Came s (digits slot) at (second slot n) (at + 1) = digit_read slot in
+    number_one d = record {
+      came = λ slot h.
+          let c : Came s (digits slot) at (second slot n) (at + 1) = digit_read e first slot in
           let (m, f) = number_plain slot n in
-          record { ahead = c.ahead; within = c.within; walk = c.walk ∙ alike s (second slot n) (number_done slot n) (at + 1) (rw (d, m (look s (at + 1)))) (rw f) };
-      few = omega (arith, digit_byte (look s at) a-digit);
-      bad = λ t. clash t refl;
+          record { ahead = c.ahead; within = c.within; walk = c.walk ∙ alike s (second slot n) (number_done slot n) (at + 1) (rw (digit_isnt s (at + 1) d, m (look s (at + 1)))) (rw f) };
+      few = omega (arith, (digit_is s at n e).2);
     }
 
     -- two digits, one step each
-    pub number_two : is_digit (look s (at + 1)) ≡ true → r ≡ record { bad = false; at = at + 2; value = (look s at - code "0") * 10 + (look s (at + 1) - code "0") } → NumberRead s zero at r
+    pub number_two : {m : ℕ} → digit s (at + 1) ≡ Some m → SlotGood digits s zero at record { at = at + 2; value = n * 10 + m }
     unfolding step
-    number_two d q = rw q record {
-      good = λ t slot z.
-          let n : ℕ = look s at - code "0" in
-          let c : Came s (digits slot) at (second slot n) (at + 1) = digit_read slot in
+    number_two {m} f = record {
+      came = λ slot z.
+          let (d, l, few) = digit_is s (at + 1) m f in
+          let c : Came s (digits slot) at (second slot n) (at + 1) = digit_read e first slot in
           let k : at + 1 + 1 ≡ at + 2 = omega arith in
-          came_came c (rw k at (came s (second slot n) (number_done slot (n * 10 + (look s (at + 1) - code "0"))) (at + 1) (omega (arith, digit_byte (look s (at + 1)) d)) (rw d)));
-      few = omega (arith, digit_byte (look s at) a-digit, digit_byte (look s (at + 1)) d);
-      bad = λ t. clash t refl;
+          let i : look s (at + 1) - code "0" ≡ m = omega arith in
+          came_came c (rw k at (came s (second slot n) (number_done slot (n * 10 + m)) (at + 1) (omega arith) (rw (d, i) refl)));
+      few = omega (arith, (digit_is s at n e).2, (digit_is s (at + 1) m f).2);
     }
 
 -- ---- a word and a number
 
-module _ (s w : List ℕ) (zero : Bool) (at : ℕ) (t r : Token) (h : WordRead s w at t) where
-  pub named_bad : t.bad ≡ true → r ≡ record { bad = true; at = t.at; value = 0 } → NamedRead s w zero at r
-  named_bad b e = rw e record { good = λ u. clash refl u; few = omega arith; bad = λ u slot z. h.bad b (digits slot) }
-
-  pub named_good : t.bad ≡ false → NumberRead s zero t.at r → NamedRead s w zero at r
-  named_good b n = record {
-    good = λ u slot z. came_came (h.good b (digits slot)) (n.good u slot z);
-    few = n.few;
-    bad = λ u slot z. came_stuck (h.good b (digits slot)) (n.bad u slot z);
-  }
+pub named_read : {s : List ℕ} (w : List ℕ) (zero : Bool) {at n : ℕ} → ((st : State) → Came s (word w st) at st n) → (r : Result Token Stuck) → NumberRead s zero n r → NamedRead s w zero at r
+named_read w zero h (Ok t) n = record { came = λ slot z. came_came (h (digits slot)) (n.came slot z); few = n.few }
+named_read w zero h (Err e) n = λ slot z. came_stuck (h (digits slot)) (n slot z)

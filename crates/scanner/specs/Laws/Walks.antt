@@ -1,5 +1,5 @@
 -- How much of a word stands from a place of a text on, and how a walk goes on from a place. Assumes nothing.
-use Rattle.std.specs.Prelude.{ℕ, suc, ◌+◌, ◌-◌, ◌≤◌, ◌<◌, Bool, ◌≢◌, ◌≡◌, get_or, drop}
+use Rattle.std.specs.Prelude.{ℕ, suc, ◌+◌, ◌-◌, ◌≤◌, ◌<◌, Option, Some, None, Bool, ◌≢◌, ◌≡◌, get_or, drop}
 use Rattle.std.proofs.Math.Decide.{dec_le}
 use Rattle.std.proofs.Math.Numerals.{add-one}
 use native.Mathlib.Omega.{arith}
@@ -10,10 +10,14 @@ use Rattle.std.proofs.Math.Path.{refl}
 use Rattle.std.proofs.Common.{sym, ap, ◌∙◌, length-drop, drop_of_length-le, drop-cons}
 use Rattle.std.proofs.Math.ListN.{length}
 use Rattle.std.proofs.Math.Dec.{eqb}
-use borrow.Author.Tests.{lt-ltb, le-ltb, eq-eqb, ne_eqb, eqb-true, eqb-false}
+use borrow.Author.Tests.{lt-ltb, le-ltb, eq-eqb, ne_eqb, eqb-true, eqb-false, ltb-true, ltb-false}
 use Rattle.scope.specs.Parsing.{State, stuck, step, at_end, go_on, walk}
-use Rattle.scanner.specs.Look.{end, look, shared, standing, past}
-use Rattle.scanner.specs.Tokens.{Stuck, Came}
+use denote.Bor.{Bor}
+use Rattle.std.specs.Slice.{IsItemAt}
+use Rattle.std.specs.Option.{option_eq, option_copied}
+use Rattle.std.proofs.lemmas.Option.{slice_get-get_or, same_Some}
+use Rattle.scanner.specs.Look.{end, byte_of, look, shared, standing, past}
+use Rattle.scanner.specs.Tokens.{StuckAt, Came}
 
 -- ---- what stands at a place
 
@@ -24,6 +28,19 @@ look_byte s i h = rw (lt-ltb i (length s) h)
 look_end : (s : List ℕ) (i : ℕ) → length s ≤ i → look s i ≡ end
 unfolding look
 look_end s i h = rw (le-ltb i (length s) h)
+
+-- the byte at a place, as the code gets it
+pub byte_of_item : (s : List ℕ) (i : ℕ) (o : Option (Bor ℕ)) → IsItemAt s i o → byte_of (option_copied o) ≡ look s i
+byte_of_item s i None h = sym (look_end s i (ltb-false i (length s) (sym h.0)))
+byte_of_item s i (Some b) h =
+    let l : i < length s = ltb-true i (length s) (sym h.0) in
+    let e : Some (get_or s i b.now) ≡ Some (get_or s i 0) = sym (slice_get-get_or s i b.now l) ∙ slice_get-get_or s i 0 l in
+    h.1 ∙ same_Some _ _ e ∙ sym (look_byte s i l)
+
+-- none is no byte
+pub byte_of_eq : (o : Option ℕ) (b : ℕ) → b < end → option_eq eqb o (Some b) ≡ eqb (byte_of o) b
+byte_of_eq None b h = sym (ne_eqb end b (λ e. omega arith))
+byte_of_eq (Some c) b h = refl
 
 -- what is no end stands in the text
 pub stands : (s : List ℕ) (i : ℕ) → look s i < end → i < length s
@@ -127,11 +144,11 @@ came s st to at b e =
     }
 
 -- no byte fits
-pub stuck_within : (s : List ℕ) (st : State) (at : ℕ) → at < length s → step st (look s at) ≡ none → Stuck s st at at
+pub stuck_within : (s : List ℕ) (st : State) (at : ℕ) → at < length s → step st (look s at) ≡ none → StuckAt s st at at
 stuck_within s st at h e = record { within = omega arith; walk = walk_byte s st at h ∙ ap (λ o. go_on o (length s - at) (λ to. walk to (drop (at + 1) s))) e }
 
 -- and the text may not end here
-pub stops : (s : List ℕ) (st : State) (at : ℕ) → at ≤ length s → step st (look s at) ≡ none → at_end st ≡ stuck 0 → Stuck s st at at
+pub stops : (s : List ℕ) (st : State) (at : ℕ) → at ≤ length s → step st (look s at) ≡ none → at_end st ≡ stuck 0 → StuckAt s st at at
 unfolding walk
 stops s st at h e f = record { within = h; walk = go (dec_le (length s) at) }
   where
@@ -147,7 +164,7 @@ came_came {s} {st} {to} {more} {at} {n} {m} c d =
     let q : n < m = d.ahead in
     record { ahead = omega arith; within = d.within; walk = c.walk ∙ d.walk }
 
-pub came_stuck : {s : List ℕ} {st to : State} {at n m : ℕ} → Came s st at to n → Stuck s to n m → Stuck s st at m
+pub came_stuck : {s : List ℕ} {st to : State} {at n m : ℕ} → Came s st at to n → StuckAt s to n m → StuckAt s st at m
 came_stuck c d = record { within = d.within; walk = c.walk ∙ d.walk }
 
 -- ---- two states that go on alike from a place

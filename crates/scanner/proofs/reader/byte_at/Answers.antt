@@ -1,12 +1,8 @@
--- Each branch's test says which case of `look` holds.
-use Rattle.std.proofs.Common.{le-ltb, lt-ltb}
-use Rattle.scanner.specs.Look.{look}
+-- What the slice gives is the element at the place, if there is one.
+use Rattle.std.proofs.Common.{ap, ◌∙◌}
+use Rattle.scanner.specs.Look.{byte_of}
+use Rattle.scanner.specs.Laws.Walks.{byte_of_item}
 use Rattle.scanner.proofs.reader.byte_at.Goals as goal
 
-pub returns-then-at-text : goal.returns-then-at-text
-unfolding look
-returns-then-at-text c = simp (lt-ltb _ _ c.if-at-text.true)
-
-pub returns-else-at-text : goal.returns-else-at-text
-unfolding look
-returns-else-at-text c = simp (le-ltb _ _ c.if-at-text.false)
+pub returns : goal.returns
+returns c = ap byte_of c.copied.ensures ∙ byte_of_item c.args.text.now c.args.at c.get.result c.get.ensures.lookup

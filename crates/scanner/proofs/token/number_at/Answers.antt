@@ -1,27 +1,29 @@
--- Each return is one case of the two bytes: a zero, which is a number or not; no digit; two digits; one digit with none after it.
-use Rattle.std.proofs.Common.{arith, refl, sym, ◌∙◌}
-use Rattle.scanner.specs.Laws.Tokens.{number_zero, number_no_zero, number_none, number_one, number_two}
+-- Each return is one case of the two digits: none; a zero, which is a number or not; two digits; one with none after it.
+use Rattle.std.proofs.Common.{arith, sym}
+use Rattle.scanner.specs.Laws.Tokens.{digit_is, number_none, number_zero, number_no_zero, number_one, number_two}
 use Rattle.scanner.proofs.token.number_at.Goals as goal
 
+pub returns-in_default : goal.returns-in_default
+returns-in_default c = number_none _ c.requires (sym c.in_default.ensures)
+
 pub returns-then-zero : goal.returns-then-zero
-returns-then-zero c = number_zero _ _ _ c.requires _ (sym c.look-first.ensures ∙ c.if-first-eq-ZERO.true) c.if-zero.true refl
+returns-then-zero c =
+    let z = c.if-first-eq0.true in
+    rw z (number_zero _ (rw z at (sym c.in-Some.ensures)) c.if-zero.true)
 
-pub returns-then-first-eq-ZERO : goal.returns-then-first-eq-ZERO
-returns-then-first-eq-ZERO c = number_no_zero _ _ _ c.requires _ (sym c.look-first.ensures ∙ c.if-first-eq-ZERO.true) c.if-zero.false c.stuck.ensures
+pub returns-else-zero : goal.returns-else-zero
+returns-else-zero c =
+    let z = c.if-first-eq0.true in
+    number_no_zero _ c.requires (rw z at (sym c.in-Some.ensures)) c.if-zero.false
 
-pub returns-then-not-is_digit : goal.returns-then-not-is_digit
-returns-then-not-is_digit c =
-    let e = c.look-first.ensures in
-    number_none _ _ _ c.requires _ (λ z. omega (arith, e, z)) (rw e at (sym c.is_digit.ensures ∙ c.if-not-is_digit.true)) c.stuck-then-not-is_digit.ensures
+pub overflow_mul-result : goal.overflow_mul-result
+overflow_mul-result c = omega (arith, (digit_is _ _ _ (sym c.in-Some.ensures)).2)
 
-pub returns-then-is_digit : goal.returns-then-is_digit
-returns-then-is_digit c =
-    let e = c.look-first.ensures in
-    let f = c.look-second.ensures in
-    number_two _ _ _ c.requires _ (λ z. omega (arith, e, z)) (rw e at (sym c.is_digit.ensures ∙ c.if-not-is_digit.false)) (rw f at (sym c.is_digit-2.ensures ∙ c.if-is_digit.true)) (rw (e, f) refl)
+pub overflow_add-result-in-Some-digit_at : goal.overflow_add-result-in-Some-digit_at
+overflow_add-result-in-Some-digit_at c = omega (arith, (digit_is _ _ _ (sym c.in-Some.ensures)).2, (digit_is _ _ _ (sym c.in-Some-digit_at.ensures)).2)
 
-pub returns : goal.returns
-returns c =
-    let e = c.look-first.ensures in
-    let f = c.look-second.ensures in
-    number_one _ _ _ c.requires _ (λ z. omega (arith, e, z)) (rw e at (sym c.is_digit.ensures ∙ c.if-not-is_digit.false)) (rw f at (sym c.is_digit-2.ensures ∙ c.if-is_digit.false)) (rw e refl)
+pub returns-in-Some-digit_at : goal.returns-in-Some-digit_at
+returns-in-Some-digit_at c = number_two _ (sym c.in-Some.ensures) c.if-first-eq0.false (sym c.in-Some-digit_at.ensures)
+
+pub returns-in-None : goal.returns-in-None
+returns-in-None c = number_one _ (sym c.in-Some.ensures) c.if-first-eq0.false (sym c.in-None.ensures)
