@@ -1,11 +1,15 @@
--- All patterns below i are passed. So the first that is not passed is the smallest, and at the end there is none.
-use Rattle.std.proofs.Common.{arith, sym, ◌∙◌}
-use Rattle.circuit.specs.Laws.Patterns.{missed_none, missed_first}
+-- The search finds the first pattern that is not passed, or finds that all are.
+use Rattle.std.proofs.Common.{◌≡◌, ◌^◌, true, false, rules, ap, ◌∙◌}
+use borrow.Author.Tests.{tests}
+use Rattle.std.proofs.lemmas.Iterator.{first_from_Range}
+use Rattle.scope.specs.Meaning.{patterns, passes}
+use Rattle.circuit.specs.Laws.Patterns.{missed_found}
 use Rattle.circuit.proofs.rule.first_missed.Goals as goal
 
-pub returns-then-not-passes : goal.returns-then-not-passes
-returns-then-not-passes g c =
-    rw (← c.requires.0) (missed_first _ _ _ (omega arith) (rw c.requires.0 (sym c.passes.ensures ∙ c.if-not-passes.true)) c.loop-i.invariant.1)
-
 pub returns : goal.returns
-returns g c = rw (← c.requires.0) (missed_none _ _ (λ q h. c.loop-i.invariant.1 q (omega arith)))
+returns c =
+    let t = c.args.sheet.now in
+    let p = c.args.plan.0 in
+    let n : c.power.result ≡ patterns t = c.power.ensures ∙ ap (λ k. 2 ^ k.faults) c.counts.ensures.counts in
+    missed_found t p c.power.result c.find.result c.map.result n c.map.ensures.cases
+    (first_from_Range _ _ _ c.find.result (λ q. passes t p q ≡ false) (λ q. passes t p q ≡ true) c.find.ensures.ran (λ x q k. search (rules, tests)) (λ x q k. search (rules, tests)))

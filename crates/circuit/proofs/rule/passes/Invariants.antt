@@ -1,13 +1,7 @@
--- The loop ends with the last rule, and whether the rules from i on are all true is whether all are.
-use Rattle.std.proofs.Common.{◌≡◌, ◌-◌, drop}
-use Rattle.scope.specs.Meaning.{all, truth, passes}
-use Rattle.scope.specs.Words.{word, held}
+-- The rules before i are true.
+use Rattle.std.proofs.Common.{◌≡◌, ℕ, ◌<◌, get_or, true}
+use Rattle.scope.specs.Meaning.{truth}
 use Rattle.circuit.proofs.rule.passes.Given as goal
 
 abbrev pub invariant-loop-i : goal.invariant-loop-i
-invariant-loop-i g l =
-    let t = held l.sheet in
-    (l.end ≡ word l.sheet 3) × (all (drop l.i t.rules) (truth t l.plan.0 l.pattern.0) ≡ passes t l.plan.0 l.pattern.0)
-
-abbrev pub decreases-loop-i : goal.decreases-loop-i
-decreases-loop-i g l = l.end - l.i
+invariant-loop-i l = (k : ℕ) → k < l.i → truth l.sheet l.plan.0 l.pattern.0 (get_or l.sheet.rules k 0) ≡ true

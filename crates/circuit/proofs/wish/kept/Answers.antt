@@ -1,24 +1,23 @@
--- The literals of a clause are those of its three codes, so it is kept when one of the three has a true one, asked for in order.
-use Rattle.std.proofs.Common.{sym, ◌∙◌}
-use Rattle.circuit.specs.Laws.Literals.{keeps_clause, clause_parts}
+-- The literals of a clause are those of its codes, so it is kept when one of these has a true one.
+use Rattle.std.proofs.Common.{rules, sym, subst, ◌∙◌}
+use borrow.Author.Tests.{tests}
+use Rattle.std.proofs.lemmas.Iterator.{YieldsList-from_slice}
+use Rattle.std.proofs.lemmas.Iterator.Adapters.{serves_from_places}
+use Rattle.std.proofs.lemmas.Iterator.Search.{any_from_yields_List}
+use Rattle.scope.specs.Meaning.{bits, nth, keeps}
+use Rattle.scope.proofs.Laws.Alls.{all_at}
+use Rattle.circuit.specs.Steps.{literals_of}
+use Rattle.circuit.specs.Laws.Literals.{Named, codes_named, keeps_clause}
 use Rattle.circuit.proofs.wish.kept.Goals as goal
 
-pub literal_true-requires : goal.literal_true-requires
-literal_true-requires c = (c.requires.0, (clause_parts _ _ _ _ c.requires.1).0)
-
-pub returns-then-literal_true : goal.returns-then-literal_true
-returns-then-literal_true c = rw (keeps_clause _ _ _ _ c.requires.1, sym c.literal_true.ensures ∙ c.if-literal_true.true)
-
-pub literal_true-requires-2 : goal.literal_true-requires-2
-literal_true-requires-2 c = (c.requires.0, (clause_parts _ _ _ _ c.requires.1).1)
-
-pub returns-then-literal_true-2 : goal.returns-then-literal_true-2
-returns-then-literal_true-2 c =
-    rw (keeps_clause _ _ _ _ c.requires.1, sym c.literal_true.ensures ∙ c.if-literal_true.false, sym c.literal_true-2.ensures ∙ c.if-literal_true-2.true)
-
-pub literal_true-requires-3 : goal.literal_true-requires-3
-literal_true-requires-3 c = (c.requires.0, (clause_parts _ _ _ _ c.requires.1).2)
+pub any-requires-clause-callable : goal.any-requires-clause-callable
+any-requires-clause-callable c =
+    serves_from_places (YieldsList-from_slice c.args.wish c.iter.ensures.rest) (λ x q k. search (rules, tests)) (λ x k l e.
+    let n : Named c.args.a (literals_of x.now) = subst (λ m. Named c.args.a (literals_of m)) (sym e) (all_at (λ m. Named c.args.a (literals_of m)) c.args.wish x.now k (codes_named c.args.a c.args.wish (search rules) c.requires.1) l) in
+    search (rules, n))
 
 pub returns : goal.returns
 returns c =
-    rw (keeps_clause _ _ _ _ c.requires.1, sym c.literal_true.ensures ∙ c.if-literal_true.false, sym c.literal_true-2.ensures ∙ c.if-literal_true-2.false) c.literal_true-3.ensures
+    let v = nth (bits c.args.a c.args.plan.0) in
+    any_from_yields_List (λ n. keeps v (literals_of n)) _ _ c.any.result c.any.ensures.ran (YieldsList-from_slice c.args.wish c.iter.ensures.rest) (λ x b q k. search (rules, tests))
+    ∙ keeps_clause c.args.a c.args.wish (search rules) c.requires.1 v

@@ -1,7 +1,7 @@
--- Code 0 has no literal, so none is true. Every other code has one: its lowest digit is the minus, and the rest the switch.
-use Rattle.std.proofs.Common.{ap, eq-eqb, ne_eqb}
-use Rattle.std.proofs.Math.Bool.{not}
-use Rattle.scope.specs.Meaning.{keeps}
+-- Code 0 has no literal, so none is true. Every other code has one, which is true where its switch is not as its minus says.
+use Rattle.std.proofs.Common.{ap}
+use Rattle.scope.specs.Meaning.{bits, nth, keeps}
+use Rattle.words.specs.Entries.{literal_of}
 use Rattle.circuit.specs.Steps.{literals_of}
 use Rattle.circuit.specs.Laws.Literals.{literal_switch, keeps_literal}
 use Rattle.circuit.proofs.wish.literal_true.Goals as goal
@@ -10,13 +10,11 @@ pub returns-then-code-eq0 : goal.returns-then-code-eq0
 unfolding keeps literals_of
 returns-then-code-eq0 c = rw c.if-code-eq0.true
 
-pub switch_on-on-requires : goal.switch_on-on-requires
-switch_on-on-requires c = (c.requires.0, literal_switch c.args.code c.if-code-eq0.false c.args.a c.requires.1)
-
-pub returns-then-code-eq1 : goal.returns-then-code-eq1
-returns-then-code-eq1 c =
-    rw (keeps_literal c.args.code c.if-code-eq0.false, eq-eqb _ _ c.if-code-eq1.true) (ap not c.switch_on-on.ensures)
+pub switch_on-requires : goal.switch_on-requires
+switch_on-requires c =
+    let e = ap (λ l. l.size) c.from-literal.ensures in
+    (c.requires.0, rw e (literal_switch c.args.code c.if-code-eq0.false c.args.a c.requires.1))
 
 pub returns : goal.returns
 returns c =
-    rw (keeps_literal c.args.code c.if-code-eq0.false, ne_eqb _ _ c.if-code-eq1.false) c.switch_on-on.ensures
+    rw c.switch_on.ensures (keeps_literal c.args.code c.if-code-eq0.false (nth (bits c.args.a c.args.plan.0)) (literal_of c.from-literal.result) c.from-literal.ensures)
