@@ -1,6 +1,5 @@
 pub mod Filled
 pub mod Words
-pub mod Rows
 pub mod Lines
 pub mod Tests
 pub mod Passed

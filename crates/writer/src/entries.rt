@@ -3,7 +3,6 @@ ghost use Rattle.std.specs.Prelude.{◌≡◌, ◌≤◌};
 ghost use Rattle.writer.specs.Entries.{before_end, LineOf};
 
 use words::Words;
-use words::convert::wide;
 use words::counts::counts_of;
 
 // What a line is of: the counts of switches and faults, an entry, counted from 0, or the end.
@@ -17,35 +16,31 @@ pub enum Entry {
 }
 
 // The lines before the last, which counts them.
-pub fn line_count(sheet: &Words) -> usize
-    ensures { result ≡ before_end sheet.now }
+pub fn line_count(words: &Words) -> usize
+    ensures { result ≡ before_end words.now }
 {
-    let c = counts_of(sheet);
-    1 + wide(c.gates) + wide(c.rules) + wide(c.wishes)
+    let c = counts_of(words);
+    1 + c.gates as usize + c.rules as usize + c.wishes as usize
 }
 
 // What line k is of, counted from 0.
-pub fn entry_on(sheet: &Words, k: usize) -> Entry
-    requires { k ≤ before_end sheet.now }
-    ensures { LineOf sheet.now k result }
+pub fn entry_on(words: &Words, k: usize) -> Entry
+    requires { k ≤ before_end words.now }
+    ensures { LineOf words.now k result }
 {
-    if k == 0 {
+    let c = counts_of(words);
+    let Some(i) = k.checked_sub(1) else {
         return Entry::Head;
-    }
-    let c = counts_of(sheet);
-    let i = k - 1;
-    let gates = wide(c.gates);
-    if i < gates {
+    };
+    let Some(j) = i.checked_sub(c.gates as usize) else {
         return Entry::Gate(i);
-    }
-    let j = i - gates;
-    let rules = wide(c.rules);
-    if j < rules {
+    };
+    let Some(m) = j.checked_sub(c.rules as usize) else {
         return Entry::Rule(j);
+    };
+    if m < c.wishes as usize {
+        Entry::Wish(m)
+    } else {
+        Entry::End
     }
-    let m = j - rules;
-    if m < wide(c.wishes) {
-        return Entry::Wish(m);
-    }
-    Entry::End
 }

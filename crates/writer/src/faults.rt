@@ -4,127 +4,111 @@ ghost use Rattle.std.specs.Prelude.{◌≡◌, ℕ, ◌≤◌};
 ghost use Rattle.scope.specs.Sheet.{plus};
 ghost use Rattle.scope.specs.Causes.{point, literal, literals};
 ghost use Rattle.scope.specs.Words.{literal_from};
-ghost use Rattle.words.specs.Entries.{gate_from};
-ghost use Rattle.words.specs.Tests.{Fault};
+ghost use Rattle.words.specs.Entries.{gate_of_words};
+ghost use Rattle.words.specs.Refusals.{Tested};
 ghost use Rattle.writer.specs.Entries.{before_end};
 ghost use Rattle.writer.specs.Tested.{named, literals_of, tests_of, line_tests};
 
 use crate::entries::{Entry, entry_on};
-use words::convert::{both, wide};
+use words::Words;
 use words::counts::counts_of;
-use words::gate::{Gate, gate_at};
-use words::refusal::test;
+use words::gate::{AND, GATE_SIZE, NOT, OR, gate_words};
+use words::limit::{MOST_FAULTS, MOST_GATES, MOST_RULES, MOST_SWITCHES, MOST_WISHES};
+use words::literal::Literal;
+use words::refusal::{Refusal, require};
 use words::rule::rule_at;
 use words::wish::{Wish, wish_at};
-use words::{Words, letter, limit, refusal};
-
-// The kinds of gates, as words.
-const NOT: u32 = letter::NOT as u32;
-
-const AND: u32 = letter::AND as u32;
-
-const OR: u32 = letter::OR as u32;
 
 // Whether p is one of m points.
 fn is_point(p: u32, m: usize) -> bool
     ensures { result ≡ point m (plus p) }
 {
-    both(wide(p) <= m, 0 < p)
+    p as usize <= m && 0 < p
 }
 
 // Whether a code stands for a literal of a switches.
 fn is_literal(code: u32, a: u32) -> bool
     ensures { result ≡ literal a (literal_from code) }
 {
-    let k = code / 2;
-    both(k <= a, 0 < k)
+    let k = Literal::from(code).switch;
+    k <= a && 0 < k
 }
 
-// Whether the words stand for a gate that names points of m.
-fn is_gate(gate: Gate, m: usize) -> bool
-    ensures { result ≡ named m (gate_from gate) }
+// Whether words stand for a gate that names points of m.
+#[tactic(auto, using(crate::specs::Laws::Words::gate_by_words))]
+fn is_gate(words: [u32; GATE_SIZE], m: usize) -> bool
+    ensures { result ≡ named m (gate_of_words words) }
 {
-    let kind = gate.kind;
-    let first = is_point(gate.left, m);
+    let [kind, left, right] = words;
+    let first = is_point(left, m);
     match kind {
-        NOT => both(first, gate.right == 0),
-        AND => both(first, is_point(gate.right, m)),
-        OR => both(first, is_point(gate.right, m)),
+        NOT => first && right == 0,
+        AND | OR => first && is_point(right, m),
         _ => false,
     }
 }
 
 // Whether literals of a switches come first and zeros fill up.
+#[tactic(auto, using(crate::specs::Laws::Words::clause_by_words))]
 fn is_clause(wish: Wish, a: u32) -> bool
     ensures { result ≡ literals a (literals_of wish) }
 {
-    if wish.first == 0 {
-        return both(wish.second == 0, wish.third == 0);
+    match wish {
+        [0, y, z] => y == 0 && z == 0,
+        [x, 0, z] => is_literal(x, a) && z == 0,
+        [x, y, 0] => is_literal(x, a) && is_literal(y, a),
+        [x, y, z] => is_literal(x, a) && is_literal(y, a) && is_literal(z, a),
     }
-    let one = is_literal(wish.first, a);
-    if wish.second == 0 {
-        return both(one, wish.third == 0);
-    }
-    let two = both(one, is_literal(wish.second, a));
-    if wish.third == 0 {
-        return two;
-    }
-    both(two, is_literal(wish.third, a))
 }
 
-// Each of these gives the number of the first test that its line does not meet, or 0. A line beyond the limit is not looked at.
+// Each of these makes the tests of its line. A line beyond the limit is not looked at.
 
-fn head_fault(sheet: &Words) -> u32
-    ensures { Fault (tests_of sheet.now Entry.Head) result }
+fn head_fault(words: &Words) -> Result<(), Refusal>
+    ensures { Tested (tests_of words.now Entry.Head) result }
 {
-    let c = counts_of(sheet);
-    let switches = c.switches <= limit::MOST_SWITCHES;
-    let faults = c.faults <= limit::MOST_FAULTS;
-    test(refusal::RANGE, both(switches, faults), 0)
+    let c = counts_of(words);
+    require(
+        c.switches <= MOST_SWITCHES && c.faults <= MOST_FAULTS,
+        Refusal::Range,
+    )
 }
 
-fn gate_fault(sheet: &Words, i: usize) -> u32
-    ensures { Fault (tests_of sheet.now (Entry.Gate i)) result }
+fn gate_fault(words: &Words, i: usize) -> Result<(), Refusal>
+    ensures { Tested (tests_of words.now (Entry.Gate i)) result }
 {
-    if wide(limit::MOST_GATES) <= i {
-        return refusal::LIMIT;
-    }
-    let c = counts_of(sheet);
-    let before = wide(c.switches) + wide(c.faults) + i;
-    test(refusal::FIELDS, is_gate(gate_at(sheet, i), before), 0)
+    require(i < MOST_GATES as usize, Refusal::Limit)?;
+    let c = counts_of(words);
+    let before = c.switches as usize + c.faults as usize + i;
+    require(is_gate(gate_words(words, i), before), Refusal::Fields)
 }
 
-fn rule_fault(sheet: &Words, i: usize) -> u32
-    ensures { Fault (tests_of sheet.now (Entry.Rule i)) result }
+fn rule_fault(words: &Words, i: usize) -> Result<(), Refusal>
+    ensures { Tested (tests_of words.now (Entry.Rule i)) result }
 {
-    if wide(limit::MOST_RULES) <= i {
-        return refusal::LIMIT;
-    }
-    let c = counts_of(sheet);
-    let points = wide(c.switches) + wide(c.faults) + wide(c.gates);
-    test(refusal::FIELDS, is_point(rule_at(sheet, i), points), 0)
+    require(i < MOST_RULES as usize, Refusal::Limit)?;
+    let c = counts_of(words);
+    let points = c.switches as usize + c.faults as usize + c.gates as usize;
+    require(is_point(rule_at(words, i), points), Refusal::Fields)
 }
 
-fn wish_fault(sheet: &Words, i: usize) -> u32
-    ensures { Fault (tests_of sheet.now (Entry.Wish i)) result }
+fn wish_fault(words: &Words, i: usize) -> Result<(), Refusal>
+    ensures { Tested (tests_of words.now (Entry.Wish i)) result }
 {
-    if wide(limit::MOST_WISHES) <= i {
-        return refusal::LIMIT;
-    }
-    let c = counts_of(sheet);
-    test(refusal::FIELDS, is_clause(wish_at(sheet, i), c.switches), 0)
+    require(i < MOST_WISHES as usize, Refusal::Limit)?;
+    let c = counts_of(words);
+    require(is_clause(wish_at(words, i), c.switches), Refusal::Fields)
 }
 
-// Line k, counted from 0.
-pub fn fault_at(sheet: &Words, k: usize) -> u32
-    requires { k ≤ before_end sheet.now }
-    ensures { (n : ℕ) → 3 ≤ n → Fault (line_tests n sheet.now k) result }
+// The tests of line k, counted from 0.
+pub fn fault_at(words: &Words, k: usize) -> Result<(), Refusal>
+    requires { k ≤ before_end words.now }
+    ensures { (n : ℕ) → 3 ≤ n → Tested (line_tests n words.now k) result }
 {
-    match entry_on(sheet, k) {
-        Entry::Head => head_fault(sheet),
-        Entry::Gate(i) => gate_fault(sheet, i),
-        Entry::Rule(i) => rule_fault(sheet, i),
-        Entry::Wish(i) => wish_fault(sheet, i),
-        Entry::End => 0,
+    match entry_on(words, k) {
+        Entry::Head => head_fault(words),
+        Entry::Gate(i) => gate_fault(words, i),
+        Entry::Rule(i) => rule_fault(words, i),
+        Entry::Wish(i) => wish_fault(words, i),
+        Entry::End => Ok(()),
     }
 }

@@ -1,114 +1,66 @@
 // A sheet written from the words that hold it: its lines are tested from the first, then the room, and only then is anything put into
 // the buffer.
-ghost use Rattle.std.specs.Prelude.{List, ◌≡◌, ℕ, ◌≤◌, length};
+ghost use Rattle.std.specs.Prelude.{◌≡◌, ℕ, ◌≤◌, length};
 ghost use Rattle.scope.specs.Sheet.{field_count, sheet_bytes, Valid};
-ghost use Rattle.scope.specs.Causes.{line_size};
 ghost use Rattle.scope.specs.Words.{held};
-ghost use Rattle.scope.specs.Writing.{TablesRead, written, IsWritten};
-ghost use Rattle.field.specs.Put.{put};
-ghost use Rattle.words.specs.Told.{told};
+ghost use Rattle.scope.specs.Writing.{IsWritten};
+ghost use Rattle.writer.specs.Tested.{Caused};
 ghost use Rattle.writer.specs.Returned.{written_from};
 
 use crate::entries::line_count;
 use crate::faults::fault_at;
-use crate::rows::row_at;
-use line::line::{FIELD_COUNT, line_size, put_line};
+use crate::lines::line_at;
+use line::{FIELD_COUNT, line_size, put_line};
 use words::Words;
-use words::refusal::{Cause, TOO_SHORT};
-
-// The length is 0 on refusal.
-#[derive(Clone, Copy)]
-pub struct WriteResult {
-    // 0, or the number of the refusal
-    pub number: u32,
-    pub place: usize,
-    pub column: usize,
-    pub length: usize,
-}
+use words::refusal::{Cause, Refusal};
 
 // The first cause to turn the held sheet down: its lines are tested from the first.
-fn first_cause(sheet: &Words) -> Cause
-    ensures { (n : ℕ) → 3 ≤ n → TablesRead n (held sheet.now) (told result sheet.now) }
+fn first_cause(words: &Words) -> Result<(), Cause>
+    ensures { (n : ℕ) → 3 ≤ n → Caused n words.now result }
 {
-    let count = line_count(sheet);
-    let mut k = 0;
-    while k < count {
-        let number = fault_at(sheet, k);
-        if number != 0 {
-            let place = k + 1;
-            return Cause {
-                number,
-                place,
-                column: 0,
-            };
-        }
-        k += 1;
+    for k in 0..line_count(words) {
+        fault_at(words, k).map_err(|refusal| Cause::at(refusal, k + 1))?;
     }
-    Cause {
-        number: 0,
-        place: 0,
-        column: 0,
+    Ok(())
+}
+
+// Puts the lines, each of N fields, one after another.
+fn put_lines<const N: usize>(words: &Words, out: &mut [u8])
+    requires form { (3 ≤ N) × (N ≤ 4) }
+    requires valid { Valid (held words.now) }
+    requires whole { length out.old ≡ length (sheet_bytes N (held words.now)) }
+    ensures { out.new ≡ sheet_bytes N (held words.now) }
+{
+    let size = line_size(N);
+    for k in 0..line_count(words) + 1 {
+        let line = line_at::<N>(words, k);
+        let at = k * size;
+        put_line(
+            &mut out[at..at + size],
+            u8::from(line.letter),
+            &line.numbers,
+        );
     }
 }
 
-// Puts the lines, each of n fields, one after another from the beginning of the buffer.
-fn put_lines(out: &mut [u8], sheet: &Words, n: usize, size: usize)
-    requires { (3 ≤ n) × (n ≤ 4) × (size ≡ line_size n) × Valid (held sheet.now) × (length (sheet_bytes n (held sheet.now)) ≤ length out.old) }
-    ensures { out.new ≡ put out.old 0 (sheet_bytes n (held sheet.now)) }
+// A sheet whose lines have N fields.
+fn write_form<const N: usize>(words: &Words, out: &mut [u8]) -> Result<usize, Cause>
+    requires { (3 ≤ N) × (N ≤ 4) }
+    ensures { IsWritten N words.now out.old (written_from result out.new) }
 {
-    let count = line_count(sheet);
-    let mut k = 0;
-    while k <= count {
-        let row = row_at(sheet, k);
-        let letter = row.letter;
-        let numbers = row.numbers;
-        put_line(out, k * size, letter, numbers, n);
-        k += 1;
-    }
-}
-
-fn refused(cause: Cause) -> WriteResult
-    ensures { (out : List ℕ) → written_from result out ≡ written cause.number cause.place cause.column 0 out }
-{
-    WriteResult {
-        number: cause.number,
-        place: cause.place,
-        column: cause.column,
-        length: 0,
-    }
-}
-
-// A sheet whose lines have n fields.
-fn write_form(sheet: &Words, n: usize, out: &mut [u8]) -> WriteResult
-    requires { (3 ≤ n) × (n ≤ 4) }
-    ensures { IsWritten n sheet.now out.old (written_from result out.new) }
-{
-    let cause = first_cause(sheet);
-    if cause.number != 0 {
-        return refused(cause);
-    }
-    let size = line_size(n);
-    let need = (line_count(sheet) + 1) * size;
+    first_cause(words)?;
+    let need = (line_count(words) + 1) * line_size(N);
     if out.len() < need {
-        return refused(Cause {
-            number: TOO_SHORT,
-            place: 0,
-            column: 0,
-        });
+        return Err(Cause::at(Refusal::TooShort, 0));
     }
-    put_lines(out, sheet, n, size);
-    WriteResult {
-        number: 0,
-        place: 0,
-        column: 0,
-        length: need,
-    }
+    put_lines::<N>(words, &mut out[..need]);
+    Ok(need)
 }
 
-// The sheet that the words hold put at the beginning of `out`, or the first cause to turn it down. Words beyond the counts are not
-// looked at.
-pub fn write(sheet: &Words, out: &mut [u8]) -> WriteResult
-    ensures { IsWritten field_count sheet.now out.old (written_from result out.new) }
+// The sheet that the words hold put at the beginning of `out`, and its length, or the first cause to turn it down, which leaves the
+// buffer as it was. Words beyond the counts are not looked at.
+pub fn write(words: &Words, out: &mut [u8]) -> Result<usize, Cause>
+    ensures { IsWritten field_count words.now out.old (written_from result out.new) }
 {
-    write_form(sheet, FIELD_COUNT, out)
+    write_form::<FIELD_COUNT>(words, out)
 }

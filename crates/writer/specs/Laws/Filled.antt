@@ -1,13 +1,17 @@
 -- A line's numbers filled up with zeros: a zero at the end changes nothing. Assumes nothing.
-use Rattle.std.specs.Prelude.{ℕ, suc, ◌-◌, ◌≤◌, ◌<◌, Bool, true, false, cond, List, [], ◌∷◌, ◌++◌, ◌≡◌, eqb, length}
+use Rattle.std.specs.Prelude.{ℕ, zero, suc, ◌-◌, ◌≤◌, ◌<◌, Bool, true, false, cond, List, [], ◌∷◌, ◌++◌, ◌≡◌, eqb, length, drop, replicate}
 use Rattle.std.proofs.Common.{arith, append_assoc, ◌∙◌, eqb-true}
-use Rattle.std.proofs.Math.Path.{refl}
+use Rattle.std.proofs.Math.Path.{refl, ap₂}
+use Rattle.std.proofs.lemmas.List.{map-append, drop-replicate, length-map}
 use Rattle.scope.specs.Sheet.{Number, plus, filled}
 use Rattle.scope.specs.Words.{literal_from, clause_of}
 use Rattle.scope.proofs.Laws.Lists.{length_snoc}
+use Rattle.field.specs.Columns.{number_from}
+use Rattle.field.specs.declared.Number as made
+use Rattle.line.specs.Lines.{numbers_from}
 
 module _ (n : ℕ) where
-  pub zero_filled : (xs : List Number) → length xs < n → filled n (xs ++ plus 0 ∷ []) ≡ filled n xs
+  zero_filled : (xs : List Number) → length xs < n → filled n (xs ++ plus 0 ∷ []) ≡ filled n xs
   zero_filled xs h =
       let e : n - length xs ≡ suc (n - suc (length xs)) = omega arith in
       rw (length_snoc, e, append_assoc)
@@ -28,3 +32,11 @@ module _ (n : ℕ) where
       go p false true d e f = rw (eqb-true z 0 f) two
       go false true true d e f = rw (eqb-true z 0 f) (two ∙ rw (eqb-true y 0 e) one)
       go true true true d e f = rw (eqb-true z 0 f) (two ∙ rw (eqb-true y 0 e) (one ∙ rw (eqb-true x 0 d) (zero_filled [] (omega arith))))
+
+-- numbers put at the beginning of as many zeros as a line has fields
+zeros_from : (k : ℕ) (o : made.Number) → number_from o ≡ plus 0 → numbers_from (replicate k o) ≡ replicate k (plus 0)
+zeros_from zero o z = refl
+zeros_from (suc k) o z = ap₂ (λ x xs. x ∷ xs) z (zeros_from k o z)
+
+pub numbers_filled : (n : ℕ) (xs ys : List made.Number) (o : made.Number) → ys ≡ xs → number_from o ≡ plus 0 → numbers_from (ys ++ drop (length xs) (replicate n o)) ≡ filled n (numbers_from xs)
+numbers_filled n xs ys o e z = rw (e, map-append, drop-replicate, zeros_from (n - length xs) o z, length-map)

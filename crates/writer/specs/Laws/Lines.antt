@@ -1,6 +1,6 @@
 -- The lines of a held sheet, one by one. Assumes nothing.
 use Rattle.std.specs.Prelude.{ℕ, zero, suc, ◌+◌, ◌≤◌, ◌<◌, List, [], ◌∷◌, ◌++◌, map, ◌≡◌, refl, length}
-use Rattle.std.proofs.Common.{zero-add, suc-add, arith, sym, subst, ◌∙◌}
+use Rattle.std.proofs.Common.{zero-add, suc-add, arith, ◌∙◌}
 use Rattle.std.proofs.Math.Path.{ap}
 use Rattle.std.proofs.Math.ListN.{get_or}
 use Rattle.scope.specs.Sheet.{Sheet, H, Line, line, gate_line, rule_line, wish_line, end_line, body, sheet_lines}
@@ -9,8 +9,7 @@ use Rattle.scope.proofs.Laws.Lists.{to_right}
 use Rattle.scope.proofs.Laws.Writing.{length_lines}
 use Rattle.words.specs.Laws.Held.{held_gates, held_rules, held_wishes, held_gate, held_rule, held_wish}
 use Rattle.writer.specs.Entries.{LineOf}
-use Rattle.writer.specs.Rows.{Stands, Is, line_of, line_at}
-use Rattle.writer.specs.declared.rows.Row.{Row}
+use Rattle.writer.specs.Lines.{line_of, line_at}
 use Rattle.writer.specs.declared.entries.Entry.{Entry}
 use Rattle.writer.specs.declared.entries.Entry.TheVariants.{Head, Rule, Wish, End}
 
@@ -73,6 +72,3 @@ line_is n wide u k End h =
     let w : word u 4 ≡ length (held u).wishes + 0 = omega (arith, held_wishes u) in
     ap (line_at n u) i ∙ (rw (held_gates u, held_rules u) at (after_rules n (held u) (word u 4)))
     ∙ ap (λ j. get_or (wishes n (held u)) j (first n (held u))) w ∙ past (wish_line n) (end n (held u)) (first n (held u)) (held u).wishes 0 ∙ ap (end_line n) (length_lines n wide u)
-
-pub row_of : (u : List ℕ) (k : ℕ) (x : Entry) → LineOf u k x → {e : Entry} → x ≡ e → {r : Row} → Is r (λ n. line_of n u e) → Is r (λ n. line_at n u k)
-row_of u k x h {e} same {r} i n wide narrow = subst (Stands n r) (sym (line_is n wide u k e (subst (LineOf u k) same h))) (i n wide narrow)

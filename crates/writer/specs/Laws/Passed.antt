@@ -1,38 +1,47 @@
 -- Lines tested from the first: those passed meet their tests, and the first that does not is where reading the tables stops. Assumes nothing.
-use Rattle.std.specs.Prelude.{ℕ, zero, suc, ◌+◌, ◌≤◌, ◌<◌, Bool, true, false, List, [], ◌∷◌, ◌≢◌, ◌≡◌, refl, length, get_or, take}
-use Rattle.std.proofs.Common.{add-one, arith, take-suc, take_all, ne_eqb}
-use Rattle.scope.specs.Sheet.{All}
-use Rattle.scope.specs.Causes.{Test, Met, First, here, later}
-use Rattle.scope.specs.Causes as reading
+use Rattle.std.specs.Prelude.{ℕ, zero, suc, ◌+◌, ◌≤◌, ◌<◌, Bool, true, false, cond, List, [], ◌∷◌, ◌≡◌, refl, length, get_or, take, Result, Ok, Err}
+use Rattle.std.proofs.Common.{add-one, arith, take-suc, take_all}
+use Rattle.scope.specs.Sheet.{All, Valid}
+use Rattle.scope.specs.Causes.{Test, Met, First, here, later, refused}
 use Rattle.scope.specs.Texts.{FirstLine}
 use Rattle.scope.specs.Texts as texts
 use Rattle.scope.specs.Words.{held}
-use Rattle.scope.specs.Writing.{table_tests, TablesRead, at_fault, accepted}
+use Rattle.scope.specs.Writing.{table_tests, TablesRead, at_fault}
 use Rattle.scope.proofs.Laws.Alls.{all_snoc}
 use Rattle.scope.proofs.Laws.Writing.{wishes_held, passes_valid}
-use Rattle.words.specs.Told.{told}
-use Rattle.words.specs.Tests.{test_of, Fault}
+use Rattle.words.specs.declared.refusal.Refusal.{Refusal}
+use Rattle.words.specs.declared.refusal.Refusal.TheVariants.{Limit, Fields, Range}
+use Rattle.words.specs.Refusals.{number_of, Tested}
 use Rattle.writer.specs.Entries.{before_end}
 use Rattle.writer.specs.Tested.{line_tests}
 use Rattle.writer.specs.Laws.Tests.{length_tests}
 
--- ---- the number of the first test that is not met
+-- ---- tests that are made one after another
 
-pub over : {fields : Bool} → Fault ((3, true) ∷ (5, false) ∷ (6, fields) ∷ []) 5
-over = record { met = λ z. absurd (omega arith); first = λ z. later here }
+-- a test that spares a refusal
+abbrev test : Bool → Refusal → Result Unit Refusal
+test met r = cond met (Ok tt) (Err r)
 
-pub by_fields : (ok : Bool) → Fault ((3, true) ∷ (5, true) ∷ (6, ok) ∷ []) (test_of 6 ok 0)
-unfolding test_of
-by_fields true = record { met = λ z. (refl, (refl, (refl, tt))); first = λ z. absurd (z refl) }
-by_fields false = record { met = λ z. absurd (omega arith); first = λ z. later (later here) }
+-- whether the limit is kept, and then what the fields are
+module _ (below : Bool) where
+  pub over_limit : {fields : Bool} {e : Refusal} → test below Limit ≡ Err e → Tested ((3, true) ∷ (5, below) ∷ (6, fields) ∷ []) (Err e)
+  over_limit {fields} {e} h = go below h
+    where
+      go : (b : Bool) → test b Limit ≡ Err e → Tested ((3, true) ∷ (5, b) ∷ (6, fields) ∷ []) (Err e)
+      go true h = cc
+      go false h = let l : Limit ≡ e = cc in rw (← l) (later here)
 
-pub by_range : (ok : Bool) → Fault ((3, true) ∷ (4, ok) ∷ (6, true) ∷ []) (test_of 4 ok 0)
-unfolding test_of
-by_range true = record { met = λ z. (refl, (refl, (refl, tt))); first = λ z. absurd (z refl) }
-by_range false = record { met = λ z. absurd (omega arith); first = λ z. later here }
+  pub by_fields : (ok : Bool) {u : Unit {0}} → test below Limit ≡ Ok u → Tested ((3, true) ∷ (5, below) ∷ (6, ok) ∷ []) (test ok Fields)
+  by_fields ok {u} h = go below ok h
+    where
+      go : (b ok : Bool) → test b Limit ≡ Ok u → Tested ((3, true) ∷ (5, b) ∷ (6, ok) ∷ []) (test ok Fields)
+      go true true h = (refl, (refl, (refl, tt)))
+      go true false h = later (later here)
+      go false ok h = cc
 
-pub no_tests : Fault [] 0
-no_tests = record { met = λ z. tt; first = λ z. absurd (z refl) }
+pub by_range : (ok : Bool) → Tested ((3, true) ∷ (4, ok) ∷ (6, true) ∷ []) (test ok Range)
+by_range true = (refl, (refl, (refl, tt)))
+by_range false = later here
 
 -- ---- line after line
 
@@ -47,15 +56,20 @@ abbrev pub Passed : (u : List ℕ) → ℕ → Type 0
 Passed u k = (n : ℕ) → 3 ≤ n → All Met (take k (table_tests n (held u)))
 
 module _ (u : List ℕ) where
+  pub none_passed : Passed u 0
+  none_passed n wide = tt
+
   module _ (k : ℕ) (p : Passed u k) where
-    pub all_passed : before_end u ≤ k → (n : ℕ) → 3 ≤ n → TablesRead n (held u) (reading.accepted (held u))
-    all_passed h n wide = accepted (passes_valid n wide (held u) (wishes_held u) (rw (take_all k (table_tests n (held u)) (omega (arith, length_tests n wide u))) at (p n wide)))
+    pub all_passed : before_end u ≤ k → Valid (held u)
+    all_passed h =
+        let wide : 3 ≤ 3 = omega arith in
+        passes_valid 3 wide (held u) (wishes_held u) (rw (take_all k (table_tests 3 (held u)) (omega (arith, length_tests 3 wide u))) at (p 3 wide))
 
-    module _ (h : k < before_end u) (c : ℕ) (f : (n : ℕ) → 3 ≤ n → Fault (line_tests n u k) c) where
-      pub fault_found : c ≢ 0 → (n : ℕ) → 3 ≤ n → TablesRead n (held u) (told (record { number = c; place = k + 1; column = 0 }) u)
-      fault_found z n wide = rw (ne_eqb c 0 z, add-one) (at_fault (first_line_lem k (table_tests n (held u)) (p n wide) (omega (arith, length_tests n wide u)) ((f n wide).first z)))
+    module _ (h : k < before_end u) (r : Result Unit Refusal) (f : (n : ℕ) → 3 ≤ n → Tested (line_tests n u k) r) where
+      pub fault_found : {e : Refusal} → r ≡ Err e → (n : ℕ) → 3 ≤ n → TablesRead n (held u) (refused (number_of e) (k + 1) 0)
+      fault_found e n wide = rw add-one (at_fault (first_line_lem k (table_tests n (held u)) (p n wide) (omega (arith, length_tests n wide u)) (rw e at (f n wide))))
 
-      pub next_passed : c ≡ 0 → Passed u (k + 1)
-      next_passed z n wide =
+      pub next_passed : r ≡ Ok tt → Passed u (k + 1)
+      next_passed e n wide =
           let i : k < length (table_tests n (held u)) = omega (arith, length_tests n wide u) in
-          rw (add-one, take-suc (table_tests n (held u)) k []) (all_snoc Met (take k (table_tests n (held u))) (line_tests n u k) (p n wide) ((f n wide).met z))
+          rw (add-one, take-suc (table_tests n (held u)) k []) (all_snoc Met (take k (table_tests n (held u))) (line_tests n u k) (p n wide) (rw e at (f n wide)))

@@ -1,25 +1,27 @@
 -- The tests of the lines of a held sheet, one by one. What the lines before say counts only by how many there are of each kind, so that
 -- the tests of a line are known from its place. Assumes nothing.
-use Prim.Native.Nat.{ℕ, zero, suc, ◌+◌, ◌-◌, ◌*◌, ◌≤◌, ◌<◌, min}
+use Prim.Native.Nat.{ℕ, zero, suc, ◌+◌, ◌-◌, ◌≤◌, ◌<◌, min}
 use Rattle.std.proofs.Math.Decide.{dec_lt}
 use Rattle.std.proofs.Common.{zero-add, suc-add, sym, subst, ◌∙◌, drop-cons, ne_eqb}
 use native.Mathlib.Omega.{arith}
-use Rattle.std.specs.Prelude.{true, false, ◌≡◌, ltb, take, drop}
+use Rattle.std.specs.Prelude.{true, false, ◌≡◌, ltb, take, drop, Result}
 use Rattle.std.proofs.Math.Bool.{and-true}
 use mathlib.Core.List.{List, [], ◌∷◌}
 use Rattle.std.proofs.Math.Path.{refl, ap}
 use Rattle.std.proofs.Math.ListN.{length, get_or, get_or-append, get_or-eq_default}
 use Rattle.scope.specs.Sheet.{Gate, not, and, or, Sheet, points, H, Line, line, filled, gate_line, end_line, body, most_gates, most_literals}
 use Rattle.scope.specs.Causes.{clause, tests, started, make}
-use Rattle.scope.specs.Words.{wish_size, wishes_from, word, gate_at, rule_at, wish_at, held}
+use Rattle.scope.specs.Words.{word, rule_at, held}
 use Rattle.scope.specs.Writing.{tests_from, table_tests}
 use Rattle.scope.proofs.Laws.Lists.{length_snoc}
 use Rattle.scope.proofs.Laws.Inverse.{zeros_replicate}
 use Rattle.scope.proofs.Laws.Writing.{length_lines, gate_made}
-use Rattle.words.specs.Tests.{Fault}
+use Rattle.words.specs.Refusals.{Tested}
+use Rattle.words.specs.declared.refusal.Refusal.{Refusal}
+use Rattle.words.specs.Entries.{gate_of_words, gate_words_at, wish_words_at, clause_from}
 use Rattle.writer.specs.Entries.{before_end, LineOf}
 use Rattle.writer.specs.Tested.{named, tests_of, line_tests}
-use Rattle.writer.specs.Rows.{line_of}
+use Rattle.writer.specs.Lines.{line_of}
 use Rattle.writer.specs.declared.entries.Entry.{Entry}
 use Rattle.writer.specs.declared.entries.Entry.TheVariants.{Head, Rule, Wish, End}
 use Rattle.writer.specs.Laws.Filled.{literals_filled}
@@ -59,23 +61,24 @@ module _ (n : ℕ) (wide : 3 ≤ n) (u : List ℕ) (i : ℕ) (s : Sheet) (q : Sa
   tested Head e = absurd (omega arith)
   tested (Entry.Gate j) (l, e) =
       let g : length s.gates ≡ j = omega (arith, q.gates) in
-      gate_tests_lem n s i (gate_at u j) (omega (arith, q.rules)) (omega (arith, q.wishes)) ∙ rw (g, q.switches, q.faults)
+      gate_tests_lem n s i (gate_of_words (gate_words_at u j)) (omega (arith, q.rules)) (omega (arith, q.wishes)) ∙ rw (g, q.switches, q.faults)
   tested (Rule j) (l, e) =
       let g : length s.gates ≡ word u 2 = omega (arith, q.gates) in
       let r : length s.rules ≡ j = omega (arith, q.rules) in
       let w : length s.wishes ≡ 0 = omega (arith, q.wishes) in
       rw (ne_eqb (suc i) 0 (λ e. omega arith), q.switches, q.faults, g, r, w, zeros_replicate (n - 1), and-true)
   tested (Wish j) (l, e) =
+      let v : List ℕ = wish_words_at u j in
       let w : length s.wishes ≡ j = omega (arith, q.wishes) in
-      rw (ne_eqb (suc i) 0 (λ e. omega arith), q.switches, w, ← literals_filled n wide (word u (j * wish_size + wishes_from)) (word u (j * wish_size + (wishes_from + 1))) (word u (j * wish_size + (wishes_from + 2))), zeros_replicate (n - 3), and-true, and-true)
+      rw (ne_eqb (suc i) 0 (λ e. omega arith), q.switches, w, ← literals_filled n wide (word v 0) (word v 1) (word v 2), zeros_replicate (n - 3), and-true, and-true)
   tested End e = absurd (omega arith)
 
   said_next : (e : Entry) → LineOf u (suc i) e → SaidBy u (suc i) (make s (line_of n u e).letter (line_of n u e).fields)
   unfolding make
   said_next Head e = absurd (omega arith)
-  said_next (Entry.Gate j) (l, e) = rw (gate_made n wide s (gate_at u j)) (record { switches = q.switches; faults = q.faults; gates = omega (arith, length_snoc s.gates (gate_at u j), q.gates); rules = omega (arith, q.rules); wishes = omega (arith, q.wishes) })
+  said_next (Entry.Gate j) (l, e) = rw (gate_made n wide s (gate_of_words (gate_words_at u j))) (record { switches = q.switches; faults = q.faults; gates = omega (arith, length_snoc s.gates (gate_of_words (gate_words_at u j)), q.gates); rules = omega (arith, q.rules); wishes = omega (arith, q.wishes) })
   said_next (Rule j) (l, e) = record { switches = q.switches; faults = q.faults; gates = omega (arith, q.gates); rules = omega (arith, length_snoc s.rules (rule_at u j), q.rules); wishes = omega (arith, q.wishes) }
-  said_next (Wish j) (l, e) = record { switches = q.switches; faults = q.faults; gates = omega (arith, q.gates); rules = omega (arith, q.rules); wishes = omega (arith, length_snoc s.wishes (clause (take most_literals (filled n (wish_at u j)))), q.wishes) }
+  said_next (Wish j) (l, e) = record { switches = q.switches; faults = q.faults; gates = omega (arith, q.gates); rules = omega (arith, q.rules); wishes = omega (arith, length_snoc s.wishes (clause (take most_literals (filled n (clause_from (wish_words_at u j))))), q.wishes) }
   said_next End e = absurd (omega arith)
 
 -- ---- line after line
@@ -139,5 +142,5 @@ module _ (n : ℕ) (wide : 3 ≤ n) (u : List ℕ) where
   line_tests_lem k (Wish i) (l, h) = rw h (after_head (word u 2 + (word u 3 + i)) (omega arith) (Wish i) (l, refl))
   line_tests_lem k End h = after_all k (omega arith)
 
-pub fault_of : (u : List ℕ) (k : ℕ) (x : Entry) → LineOf u k x → {e : Entry} → x ≡ e → {r : ℕ} → Fault (tests_of u e) r → (n : ℕ) → 3 ≤ n → Fault (line_tests n u k) r
-fault_of u k x h {e} same {r} f n wide = subst (λ ts. Fault ts r) (sym (line_tests_lem n wide u k e (subst (LineOf u k) same h))) f
+pub fault_of : (u : List ℕ) (k : ℕ) (e : Entry) → LineOf u k e → (r : Result Unit Refusal) → Tested (tests_of u e) r → (n : ℕ) → 3 ≤ n → Tested (line_tests n u k) r
+fault_of u k e h r f n wide = subst (λ ts. Tested ts r) (sym (line_tests_lem n wide u k e h)) f

@@ -1,39 +1,33 @@
 -- Whether words stand for a gate that names points, or for a clause, by tests of the words. Assumes nothing.
-use Rattle.std.specs.Prelude.{ℕ, ◌/◌, ◌%◌, Bool, cond, not, ◌&&◌, [], ◌∷◌, ◌≢◌, ◌≡◌, eqb, leb}
+use Rattle.std.specs.Prelude.{ℕ, ◌/◌, ◌%◌, Bool, cond, not, ◌&&◌, List, ◌≢◌, ◌≡◌, eqb, leb}
 use Prim.Native.Char.{code}
 use Rattle.std.proofs.Common.{arith, ◌∙◌}
-use Rattle.std.proofs.Math.Bool.{true, false, and-true, and-false, and_assoc}
+use Rattle.std.proofs.Math.Bool.{true, false, and-true, and-false}
 use Rattle.std.proofs.Math.Path.{refl, sym}
-use borrow.Author.Tests.{eqb-true, eqb-false, eq-eqb, ne_eqb}
+use borrow.Author.Tests.{eqb-true, eqb-false}
 use Rattle.scope.specs.Sheet.{plus, Gate}
 use Rattle.scope.specs.Causes.{is, point, literal, zeros, literals}
-use Rattle.scope.specs.Words.{no_gate, gate_of, literal_from}
-use Rattle.writer.specs.Tested.{named}
+use Rattle.scope.specs.Words.{word, no_gate, gate_of, literal_from}
+use Rattle.words.specs.Entries.{gate_of_words}
+use Rattle.writer.specs.Tested.{named, literals_of}
 
--- ---- gates
+pub gate_by_words : (m : ℕ) (w : List ℕ)
+    → named m (gate_of_words w) ≡ cond (eqb (word w 0) (code "N")) (point m (plus (word w 1)) && eqb (word w 2) 0) (cond (eqb (word w 0) (code "A")) (point m (plus (word w 1)) && point m (plus (word w 2))) (cond (eqb (word w 0) (code "O")) (point m (plus (word w 1)) && point m (plus (word w 2))) false))
+unfolding named gate_of
+gate_by_words m w = go (eqb (word w 0) (code "N")) (eqb (word w 0) (code "A")) (eqb (word w 0) (code "O")) (eqb (word w 2) 0)
+  where
+    p : ℕ
+    p = word w 1
 
-module _ (m p q : ℕ) where
-  pub not_named : named m (gate_of (code "N") p q) ≡ (point m (plus p) && eqb q 0)
-  unfolding named gate_of
-  not_named = go (eqb q 0)
-    where
-      go : (b : Bool) → named m (cond b (Gate.not p) no_gate) ≡ (point m (plus p) && b)
-      go true = sym (and-true (point m (plus p)))
-      go false = and-false (leb 0 m) ∙ sym (and-false (point m (plus p)))
+    q : ℕ
+    q = word w 2
 
-  pub and_named : named m (gate_of (code "A") p q) ≡ (point m (plus p) && point m (plus q))
-  unfolding named gate_of
-  and_named = refl
-
-  pub or_named : named m (gate_of (code "O") p q) ≡ (point m (plus p) && point m (plus q))
-  unfolding named gate_of
-  or_named = refl
-
-  pub none_named : (k : ℕ) → k ≢ code "N" → k ≢ code "A" → k ≢ code "O" → named m (gate_of k p q) ≡ false
-  unfolding named gate_of
-  none_named k a b c = rw (ne_eqb k (code "N") a, ne_eqb k (code "A") b, ne_eqb k (code "O") c) (and-false (leb 0 m))
-
--- ---- clauses
+    go : (n a o z : Bool) → named m (cond n (cond z (Gate.not p) no_gate) (cond a (Gate.and p q) (cond o (Gate.or p q) no_gate))) ≡ cond n (point m (plus p) && z) (cond a (point m (plus p) && point m (plus q)) (cond o (point m (plus p) && point m (plus q)) false))
+    go true a o true = sym (and-true (point m (plus p)))
+    go true a o false = and-false (leb 0 m) ∙ sym (and-false (point m (plus p)))
+    go false true o z = refl
+    go false false true z = refl
+    go false false false z = and-false (leb 0 m)
 
 -- the number of a word is 0 exactly if the word is
 zero_literal : (c : ℕ) → is 0 (literal_from c) ≡ eqb c 0
@@ -47,23 +41,7 @@ zero_literal c = go (eqb (c % 2) 1) (eqb (c / 2) 0) (eqb c 0) refl refl refl
     go false false false e f g = refl
     go false false true e f g = absurd (eqb-false (c / 2) 0 f (omega (arith, eqb-true c 0 g)))
 
-module _ (a x y z : ℕ) where
-  abbrev three : Bool
-  three = literals a (literal_from x ∷ literal_from y ∷ literal_from z ∷ [])
-
-  -- by the words
-  by_words : three ≡ cond (eqb x 0) (eqb y 0 && eqb z 0) (literal a (literal_from x) && cond (eqb y 0) (eqb z 0) (literal a (literal_from y) && cond (eqb z 0) true (literal a (literal_from z))))
-  unfolding literals zeros
-  by_words = rw (zero_literal x, zero_literal y, zero_literal z, and-true (eqb z 0), and-true (literal a (literal_from z)))
-
-  pub no_literal : x ≡ 0 → three ≡ (eqb y 0 && eqb z 0)
-  no_literal e = by_words ∙ rw (eq-eqb x 0 e)
-
-  pub one_literal_lem : x ≢ 0 → y ≡ 0 → three ≡ (literal a (literal_from x) && eqb z 0)
-  one_literal_lem d e = by_words ∙ rw (ne_eqb x 0 d, eq-eqb y 0 e)
-
-  pub two_literals : x ≢ 0 → y ≢ 0 → z ≡ 0 → three ≡ (literal a (literal_from x) && literal a (literal_from y))
-  two_literals d e f = by_words ∙ rw (ne_eqb x 0 d, ne_eqb y 0 e, eq-eqb z 0 f, and-true)
-
-  pub three_literals : x ≢ 0 → y ≢ 0 → z ≢ 0 → three ≡ (literal a (literal_from x) && literal a (literal_from y) && literal a (literal_from z))
-  three_literals d e f = by_words ∙ rw (ne_eqb x 0 d, ne_eqb y 0 e, ne_eqb z 0 f) (sym (and_assoc (literal a (literal_from x)) (literal a (literal_from y)) (literal a (literal_from z))))
+pub clause_by_words : (a : ℕ) (w : List ℕ)
+    → literals a (literals_of w) ≡ cond (eqb (word w 0) 0) (eqb (word w 1) 0 && eqb (word w 2) 0) (literal a (literal_from (word w 0)) && cond (eqb (word w 1) 0) (eqb (word w 2) 0) (literal a (literal_from (word w 1)) && cond (eqb (word w 2) 0) true (literal a (literal_from (word w 2)))))
+unfolding literals zeros
+clause_by_words a w = rw (zero_literal (word w 0), zero_literal (word w 1), zero_literal (word w 2), and-true (eqb (word w 2) 0), and-true (literal a (literal_from (word w 2))))

@@ -1,16 +1,13 @@
 -- Beyond the limit nothing else is tested; below it the fields are.
-use Rattle.std.proofs.Common.{◌≤◌, ◌<◌, arith}
-use borrow.Author.Tests.{le-ltb, lt-ltb}
-use Rattle.scope.specs.Sheet.{most_wishes}
-use Rattle.writer.specs.Laws.Passed.{over, by_fields}
+use Rattle.std.proofs.Common.{◌∙◌, sym}
+use Rattle.std.proofs.lemmas.Result.{err_from_is_err_and}
+use Rattle.writer.specs.Laws.Passed.{over_limit, by_fields}
 use Rattle.writer.proofs.faults.wish_fault.Goals as goal
 
-pub returns-then-wide-i : goal.returns-then-wide-i
-returns-then-wide-i c =
-    let h : most_wishes ≤ c.args.i = omega (arith, c.wide.ensures, c.if-wide-i.true) in
-    rw (le-ltb _ _ h) over
+pub returns-in_err-require : goal.returns-in_err-require
+returns-in_err-require c =
+    let p = err_from_is_err_and c.from_residual.result c.from_residual.ensures.1 in
+    rw (p.1, p.2) (over_limit _ (sym c.require.ensures ∙ c.in_err-require.was))
 
 pub returns : goal.returns
-returns c =
-    let h : c.args.i < most_wishes = omega (arith, c.wide.ensures, c.if-wide-i.false) in
-    rw (lt-ltb _ _ h, c.test.ensures, c.is_clause.ensures, c.wish_at.ensures, c.counts_of-c.ensures) (by_fields _)
+returns c = rw (c.require-2.ensures, c.is_clause.ensures, c.wish_at.ensures, c.counts_of-c.ensures) (by_fields _ _ (sym c.require.ensures ∙ c.in_ok-require.was))

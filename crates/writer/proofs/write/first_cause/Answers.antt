@@ -1,13 +1,30 @@
 -- The lines passed meet their tests, and the first that does not is told.
-use Rattle.std.proofs.Common.{arith}
+use Rattle.std.proofs.Common.{◌≡◌, ◌+◌, arith, rules, refl, subst}
+use Rattle.std.specs.Prelude.{Result, Ok, Err}
+use Rattle.std.specs.Result.{MatchResult, IsErrAnd}
+use Rattle.std.proofs.lemmas.Result.{err_from_is_err_and}
 use Rattle.writer.specs.Laws.Passed.{all_passed, fault_found, next_passed}
 use Rattle.writer.proofs.write.first_cause.Goals as goal
 
-pub returns-then-number-ne0 : goal.returns-then-number-ne0
-returns-then-number-ne0 c = fault_found c.args.sheet.now _ c.loop-k.invariant (omega (arith, c.loop-k-test.true, c.line_count-count.ensures)) _ c.fault_at-number.ensures c.if-number-ne0.true
+-- an error that `map_err` gave comes from one, by what its closure ensures
+mapped_err : {E D : Type 0} (x : Result Unit E) (y : Result Unit D) (Q : E → D → Type 0) → MatchResult x (λ u. y ≡ Ok u) (λ e. IsErrAnd y (Q e)) → {d : D} → y ≡ Err d → (e : E) × (x ≡ Err e) × Q e d
+mapped_err (Ok u) y Q h g = cc
+mapped_err (Err e) y Q h {d} g =
+    let p = err_from_is_err_and y h in
+    let s : p.0 ≡ d = cc in
+    (e, refl, subst (Q e) s p.2)
+
+pub returns-in_err-map_err : goal.returns-in_err-map_err
+returns-in_err-map_err c =
+    let p = err_from_is_err_and c.from_residual.result c.from_residual.ensures.1 in
+    let (e, h, q) = mapped_err c.fault_at.result c.map_err.result _ c.map_err.ensures.cases c.in_err-map_err.was in
+    let s : c.in_err-map_err.field-0.0 ≡ record { refusal = e; place = c.loop-k.k-counter + 1; column = 0 } = search rules in
+    rw (p.1, p.2, s) (fault_found c.args.words.now _ c.loop-k.invariant.1 (omega arith) c.fault_at.result c.fault_at.ensures h)
 
 pub loop-k-preserved : goal.loop-k-preserved
-loop-k-preserved c = next_passed c.args.sheet.now _ c.loop-k.invariant (omega (arith, c.loop-k-test.true, c.line_count-count.ensures)) _ c.fault_at-number.ensures c.if-number-ne0.false
+loop-k-preserved c =
+    let e : c.fault_at.result ≡ Ok tt = search rules in
+    (c.loop-k.invariant.0, next_passed c.args.words.now _ c.loop-k.invariant.1 (omega arith) c.fault_at.result c.fault_at.ensures e)
 
 pub returns : goal.returns
-returns c = all_passed c.args.sheet.now c.loop-k.k c.loop-k.invariant (omega (arith, c.loop-k-test.false, c.line_count-count.ensures))
+returns c = λ n wide. all_passed c.args.words.now _ c.loop-k.invariant.1 (omega arith)

@@ -1,39 +1,46 @@
--- The first k lines stand at the beginning of the buffer, and each turn puts the next one behind them.
-use Rattle.std.proofs.Common.{rules, ◌≡◌, ◌*◌, ◌≤◌, refl, ap, ◌∙◌, arith, length}
-use Rattle.field.specs.Put.{put}
-use Rattle.writer.specs.Laws.Printed.{numbers_fit, row_bytes_lem, line_room, line_good, none_put, next_put, all_put}
+-- Each turn puts the next line behind those that are there.
+use Rattle.std.proofs.Common.{◌∷◌, arith, sym, subst, ap, ◌∙◌}
+use Rattle.scope.specs.Sheet.{line_bytes, fields_bytes}
+use Rattle.scope.specs.Reading.{Fit}
+use Rattle.line.specs.Lines.{numbers_from}
+use Rattle.writer.specs.Laws.Printed.{needed, need_fits, line_room, line_good, none_put, next_put, all_put}
 use Rattle.writer.proofs.write.put_lines.Goals as goal
 
 pub loop-k-init : goal.loop-k-init
-loop-k-init c =
-    let a = c.args in
-    (omega arith, refl, none_put a.n c.requires.0 a.sheet.now c.requires.3 a.size c.requires.2 a.out.now c.requires.4)
-
-pub put_line-requires : goal.put_line-requires
-put_line-requires c =
+loop-k-init g c =
     let s = c.requires in
-    let a = c.args in
-    let u = a.sheet.now in
-    let k = c.loop-k in
-    let h : k.k ≤ c.line_count-count.result = c.loop-k-test.true in
-    let b = rw c.line_count-count.ensures at h in
-    let r = line_room a.n s.0 u s.3 a.size s.2 a.out.now s.4 k.k b in
-    (s.1, numbers_fit (c.row_at-row.ensures a.n s.0 s.1) (line_good a.n s.0 u s.3 a.size s.2 a.out.now s.4 k.k b), omega (arith, s.2, k.invariant.1))
+    let z = c.line_size-size in
+    (omega arith, none_put g.row.N s.form.0 c.args.words.now s.valid z.result z.ensures c.args.out.now)
+
+pub overflow_mul-at : goal.overflow_mul-at
+overflow_mul-at g c =
+    let s = c.requires in
+    let z = c.line_size-size in
+    let u = c.args.words.now in
+    omega (arith, line_room g.row.N s.form.0 u s.valid z.result z.ensures c.loop-k.k (omega arith), needed g.row.N s.form.0 u s.valid z.result z.ensures, need_fits g.row.N s.form.0 u s.valid z.result z.ensures s.form.1)
+
+pub slice_bounds-put_line-end : goal.slice_bounds-put_line-end
+slice_bounds-put_line-end g c =
+    let s = c.requires in
+    let z = c.line_size-size in
+    omega (arith, line_room g.row.N s.form.0 c.args.words.now s.valid z.result z.ensures c.loop-k.k (omega arith))
+
+pub put_line-requires-clause-fit : goal.put_line-requires-clause-fit
+put_line-requires-clause-fit g c =
+    let s = c.requires in
+    let z = c.line_size-size in
+    subst Fit (sym (ap (λ l. l.fields) c.line_at-line.ensures)) (line_good g.row.N s.form.0 c.args.words.now s.valid z.result z.ensures c.loop-k.k (omega arith)).fit
 
 pub loop-k-preserved : goal.loop-k-preserved
-loop-k-preserved c =
+loop-k-preserved g c =
     let s = c.requires in
-    let a = c.args in
-    let k = c.loop-k in
-    let o = c.put_line in
-    let h : k.k ≤ c.line_count-count.result = c.loop-k-test.true in
-    let b = rw c.line_count-count.ensures at h in
-    let m : length o.new.out ≡ length k.out = search rules in
-    let p = o.ensures ∙ ap (put k.out (k.k * a.size)) (row_bytes_lem (c.row_at-row.ensures a.n s.0 s.1)) in
-    (omega arith, m ∙ k.invariant.1, next_put a.n s.0 a.sheet.now s.3 a.size s.2 a.out.now s.4 k.k k.out o.new.out b k.invariant.2 p)
+    let z = c.line_size-size in
+    let l = c.line_at-line in
+    let put = c.put_line.ensures ∙ ap (λ b. b ∷ fields_bytes (numbers_from l.result.numbers)) c.from.ensures ∙ ap line_bytes l.ensures in
+    (c.loop-k.invariant.0, next_put g.row.N s.form.0 c.args.words.now s.valid z.result z.ensures c.loop-k.k _ c.loop-k.out c.put_line.new.out (omega arith) (omega arith) c.loop-k.invariant.1 (omega arith) put)
 
 pub returns : goal.returns
-returns c =
+returns g c =
     let s = c.requires in
-    let a = c.args in
-    all_put a.n s.0 a.sheet.now s.3 a.size s.2 a.out.now s.4 c.loop-k.k c.loop-k.out (omega (arith, c.loop-k-test.false, c.line_count-count.ensures)) c.loop-k.invariant.2
+    let z = c.line_size-size in
+    all_put g.row.N s.form.0 c.args.words.now s.valid z.result z.ensures c.loop-k.k c.loop-k.out (omega arith) (omega arith) c.loop-k.invariant.1

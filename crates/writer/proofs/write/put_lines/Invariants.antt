@@ -1,12 +1,9 @@
--- The first k lines stand at the beginning of the buffer, and each turn puts the next one behind them.
-use Rattle.std.proofs.Common.{◌≡◌, ◌+◌, ◌-◌, ◌≤◌, length, take}
-use Rattle.field.specs.Put.{put}
+-- The first k lines stand at the beginning of the buffer.
+use Rattle.std.proofs.Common.{◌≡◌, ◌+◌, ◌*◌, take}
 use Rattle.scope.specs.Sheet.{text, sheet_lines}
 use Rattle.scope.specs.Words.{held}
+use Rattle.writer.specs.Entries.{before_end}
 use Rattle.writer.proofs.write.put_lines.Given as goal
 
 abbrev pub invariant-loop-k : goal.invariant-loop-k
-invariant-loop-k l = (l.k ≤ l.count + 1) × (length l.out ≡ length l.fn.out) × (l.out ≡ put l.fn.out 0 (text (take l.k (sheet_lines l.n (held l.sheet)))))
-
-abbrev pub decreases-loop-k : goal.decreases-loop-k
-decreases-loop-k l = l.count + 1 - l.k
+invariant-loop-k g l = (l.k-end ≡ before_end l.words + 1) × (take (l.k * l.size) l.out ≡ text (take l.k (sheet_lines g.row.N (held l.words))))

@@ -1,42 +1,25 @@
 -- A cause is told; with none the sheet is valid, as long as its lines, and 13 is told by that length, or its lines are put.
-use Rattle.std.proofs.Common.{◌+◌, ◌*◌, ◌<◌, length, arith}
-use Rattle.writer.specs.Laws.Printed.{needed, whole, too_short, valid_told, fault_told}
+use Rattle.std.proofs.Common.{arith, sym, ◌∙◌, length-take-le}
+use Rattle.std.proofs.lemmas.Result.{err_from_is_err_and}
+use Rattle.writer.specs.Laws.Printed.{needed, whole, too_short, fault_told}
 use Rattle.writer.proofs.write.write_form.Goals as goal
 
-pub returns-then-cause-ne0 : goal.returns-then-cause-ne0
-returns-then-cause-ne0 c =
-    let a = c.args in
-    let f = c.first_cause-cause in
-    rw (c.refused.ensures a.out.now) (fault_told a.n c.requires.0 a.sheet.now f.result (f.ensures a.n c.requires.0) a.out.now c.if-cause-ne0.true)
+pub returns-in_err-first_cause : goal.returns-in_err-first_cause
+returns-in_err-first_cause g c =
+    let p = err_from_is_err_and c.from_residual.result c.from_residual.ensures.1 in
+    rw (p.1, p.2) (fault_told g.row.N c.requires.0 c.args.words.now c.in_err-first_cause.field-0.0 (c.in_err-first_cause.ensures g.row.N c.requires.0) c.args.out.now)
 
 pub returns-then-out-need : goal.returns-then-out-need
-returns-then-out-need c =
-    let s = c.requires in
-    let a = c.args in
-    let u = a.sheet.now in
-    let f = c.first_cause-cause in
-    let v = valid_told a.n s.0 u f.result (f.ensures a.n s.0) c.if-cause-ne0.false in
-    let z = c.line_size-size in
-    let h : length a.out.now < (c.line_count.result + 1) * z.result = omega arith in
-    rw (c.refused-then-out-need.ensures a.out.now) (too_short a.n s.0 u v z.result z.ensures a.out.now (rw c.line_count.ensures at h))
+returns-then-out-need g c =
+    let v = c.in_ok-first_cause.ensures g.row.N c.requires.0 in
+    rw c.at.ensures (too_short g.row.N c.requires.0 c.args.words.now v c.line_size.result c.line_size.ensures c.args.out.now (rw (← c.line_count.ensures) (omega arith)))
 
-pub put_lines-requires : goal.put_lines-requires
-put_lines-requires c =
-    let s = c.requires in
-    let a = c.args in
-    let u = a.sheet.now in
-    let f = c.first_cause-cause in
-    let v = valid_told a.n s.0 u f.result (f.ensures a.n s.0) c.if-cause-ne0.false in
-    let z = c.line_size-size in
-    (s.0, s.1, z.ensures, v, rw (needed a.n s.0 u v z.result z.ensures, ← c.line_count.ensures) (omega arith))
+pub put_lines-requires-clause-whole : goal.put_lines-requires-clause-whole
+put_lines-requires-clause-whole g c =
+    let v = c.in_ok-first_cause.ensures g.row.N c.requires.0 in
+    length-take-le _ c.args.out.now (omega arith) ∙ rw c.line_count.ensures (sym (needed g.row.N c.requires.0 c.args.words.now v c.line_size.result c.line_size.ensures))
 
 pub returns : goal.returns
-returns c =
-    let s = c.requires in
-    let a = c.args in
-    let u = a.sheet.now in
-    let f = c.first_cause-cause in
-    let v = valid_told a.n s.0 u f.result (f.ensures a.n s.0) c.if-cause-ne0.false in
-    let z = c.line_size-size in
-    let k = c.line_count.ensures in
-    rw k (whole a.n s.0 u v z.result z.ensures a.out.now (rw (needed a.n s.0 u v z.result z.ensures, ← k) (omega arith)) c.put_lines.new.out c.put_lines.ensures)
+returns g c =
+    let v = c.in_ok-first_cause.ensures g.row.N c.requires.0 in
+    rw c.line_count.ensures (whole g.row.N c.requires.0 c.args.words.now v c.line_size.result c.line_size.ensures c.put_lines.new.out c.args.out.now (rw (← c.line_count.ensures) (omega arith)) c.put_lines.ensures)
