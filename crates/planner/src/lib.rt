@@ -1,10 +1,13 @@
 // The jobs over bytes: Answer, Short run and Rating, for every byte string, every lent list and every number. It rests on `sheet` and
 // `text` for reading, on `jobs`, and on `output` for what is printed.
 //
-// What is exported, which is what can be reached from outside this crate, is the modules `sheets` and `texts`: none has a `requires`.
-// Each function over bytes reads them into words of its own and hands these on. The calls for C are in the crate `planner_c`.
+// A form, of which there are two (`form`), is a parameter of each job, as in `planner::answer::<Typed>(bytes, list)`. What is exported,
+// which is what can be reached from outside this crate, is these functions: none has a `requires`. The calls for C are in the crate
+// `planner_c`.
 #![tactic(auto)]
 
-mod read;
-pub mod sheets;
-pub mod texts;
+mod form;
+mod over;
+
+pub use form::{Fixed, Form, Typed};
+pub use over::{answer, print_listing, print_sheet, rate, read, run_pair, short_run};

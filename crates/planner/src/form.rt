@@ -1,0 +1,50 @@
+// The forms that a sheet comes in.
+ghost use Rattle.std.specs.Prelude.{ℕ, List};
+ghost use Rattle.scope.specs.Sheet.{field_count};
+ghost use Rattle.scope.specs.Causes.{Read};
+ghost use Rattle.scope.specs.Sheets.{SheetRead};
+ghost use Rattle.scope.specs.Texts.{TextRead};
+ghost use Rattle.scope.specs.Source.{Source};
+ghost use Rattle.scope.proofs.Claims.{form_source};
+ghost use Rattle.scope.specs.Source as scope;
+ghost use Rattle.words.specs.Told.{told};
+
+use words::refusal::Cause;
+use words::sheet::Sheet;
+
+// A form: what is read of bytes, and the reader that is proved to read that.
+pub trait Form {
+    ghost Reading: { List ℕ → Read → Type 0 };
+
+    fn read(s: &[u8]) -> Result<Sheet, Cause>
+        ensures { Reading s.now (told result) };
+
+    // what is read is a source for the jobs
+    ghost source: { (s : List ℕ) (r : Read) → Reading s r → Source r };
+}
+
+// The fixed-column sheet.
+pub struct Fixed;
+
+impl Form for Fixed {
+    ghost Reading = { SheetRead field_count };
+
+    ghost source = { λ s r. form_source (scope.Form.sheet s) r };
+
+    fn read(s: &[u8]) -> Result<Sheet, Cause> {
+        sheet::read(s)
+    }
+}
+
+// The typed text.
+pub struct Typed;
+
+impl Form for Typed {
+    ghost Reading = { TextRead };
+
+    ghost source = { λ s r. form_source (scope.Form.text s) r };
+
+    fn read(s: &[u8]) -> Result<Sheet, Cause> {
+        text::read(s)
+    }
+}

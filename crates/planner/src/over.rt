@@ -1,0 +1,74 @@
+// The jobs, over bytes of any form: each reads them, and hands on the sheet or the cause to turn it down.
+ghost use Rattle.scope.specs.Jobs.{IsAnswer, IsShortRun, IsRating};
+ghost use Rattle.scope.specs.Demands.{IsPair};
+ghost use Rattle.scope.specs.Program.{listing_result, IsListing, IsConverted};
+ghost use Rattle.scope.specs.Filling.{IsRead};
+ghost use Rattle.jobs.specs.Figures.{result_of, rating_of, answer_from};
+ghost use Rattle.planner.specs.Returned.{read_from};
+
+use crate::form::Form;
+use jobs::outcome::{Outcome, PairRuns, Rating};
+use output::{put_output, put_sheet};
+use words::refusal::Cause;
+use words::{Plan, Words};
+
+// Answer: the list goes into `list`, and words after it keep their content.
+pub fn answer<F: Form>(s: &[u8], list: &mut [u32]) -> Outcome
+    ensures { IsAnswer (F.Reading s.now) list.old (answer_from result list.new) }
+{
+    match F::read(s) {
+        Ok(sheet) => jobs::answer::answer(&sheet, list),
+        Err(cause) => Outcome::refused(cause),
+    }
+}
+
+// Short run: the best plan that passes the given patterns.
+pub fn short_run<F: Form>(s: &[u8], patterns: &[u32]) -> Outcome
+    ensures { IsShortRun (F.Reading s.now) patterns.now (result_of result) }
+{
+    match F::read(s) {
+        Ok(sheet) => jobs::answer::short_run(&sheet, patterns),
+        Err(cause) => Outcome::refused(cause),
+    }
+}
+
+// Rating: what a plan costs, and which pattern it misses first.
+pub fn rate<F: Form>(s: &[u8], plan: Plan) -> Result<Rating, Cause>
+    ensures { IsRating (F.Reading s.now) plan.0 (rating_of result) }
+{
+    let sheet = F::read(s)?;
+    jobs::rating::rate(&sheet, plan)
+}
+
+// Demand 3: Answer, then Short run over what it listed, and over the first `j` words of that.
+pub fn run_pair<F: Form>(s: &[u8], list: &mut [u32], j: usize) -> PairRuns
+    ensures { IsPair (F.Reading s.now) list.old j (answer_from result.full list.new) (result_of result.short) (result_of result.front) }
+{
+    match F::read(s) {
+        Ok(sheet) => jobs::pair::run_pair(&sheet, list, j),
+        Err(cause) => PairRuns::refused(cause),
+    }
+}
+
+// What the program prints, put at the beginning of `out`; its length is returned.
+pub fn print_listing<F: Form>(s: &[u8], out: &mut [u8]) -> usize
+    ensures { IsListing (F.Reading s.now) out.old (listing_result result out.new) }
+{
+    put_output(&F::read(s), out)
+}
+
+// The sheet put at the beginning of `out`, or the lines that tell its refusal; the length is returned.
+pub fn print_sheet<F: Form>(s: &[u8], out: &mut [u8]) -> usize
+    ensures { IsConverted (F.Reading s.now) out.old (listing_result result out.new) }
+{
+    put_sheet(&F::read(s), out)
+}
+
+// Its tables put into lent ones; after a refusal these are as they were.
+pub fn read<F: Form>(s: &[u8], tables: &mut Words) -> Result<(), Cause>
+    ensures { IsRead (F.Reading s.now) tables.old (read_from result tables.new) }
+{
+    let sheet = F::read(s)?;
+    *tables = *sheet.words();
+    Ok(())
+}
