@@ -1,8 +1,8 @@
 -- What steps of the code give: in no promise of an exported call. Assumes nothing.
-use Rattle.std.specs.Prelude.{◌<◌, eqb}
+use Rattle.std.specs.Prelude.{◌<◌, ◌≡◌}
 use Rattle.scope.specs.Jobs.{Result}
 use Rattle.scope.specs.Program.{third}
-use Rattle.listing.specs.declared.whole.Shown.{Shown}
+use Rattle.listing.specs.declared.shown.Head.{Head}
 use Rattle.listing.specs.Rows.{field_end}
 
 -- the figures of the A line fit their fields
@@ -11,6 +11,8 @@ pub record Printable (r : Result) : Type 0 where
   pub place : r.place < field_end
   pub figure : third r < field_end
 
--- what the listing shows of a result
-abbrev pub shown_of : Result → Shown
-shown_of r = record { number = r.number; place = r.place; figure = third r; found = eqb r.number 0; plan = record { 0 = r.plan } }
+-- and stand in it
+pub record Heads (r : Result) (h : Head) : Type 0 where
+  pub number : h.number ≡ r.number
+  pub place : h.place ≡ r.place
+  pub figure : h.figure ≡ third r

@@ -2,83 +2,88 @@
 // `jobs` for the outcome, and on `listing` and `writer` for its bytes.
 #![tactic(auto)]
 
-ghost use Rattle.std.specs.Prelude.{◌≡◌, ◌<◌};
-ghost use Rattle.scope.specs.Causes.{Read};
+ghost use Rattle.std.specs.Prelude.{◌≡◌};
 ghost use Rattle.scope.specs.Source.{Source};
-ghost use Rattle.scope.specs.Program.{third, listing_result, listing_of, converted_of};
+ghost use Rattle.scope.specs.Program.{listing_result, listing_of, converted_of};
 ghost use Rattle.words.specs.Told.{told};
 ghost use Rattle.jobs.specs.Figures.{result_of};
-ghost use Rattle.output.specs.Steps.{Printable, shown_of};
+ghost use Rattle.output.specs.Steps.{Printable, Heads, refused_listing};
 
 use jobs::answer::answer;
-use jobs::outcome::{Outcome, refused};
-use listing::whole::{MOST_BYTES, ROOM, Shown, put_listing};
-use words::Words;
-use words::convert::narrow;
-use words::refusal::{Cause, MALFORMED};
+use jobs::outcome::Outcome;
+use listing::shown::{Found, Head};
+use listing::whole::{MOST_BYTES, ROOM, put_listing};
+use words::refusal::{Cause, Refusal};
+use words::sheet::Sheet;
 use writer::write::write;
 
 // The bytes of the longest sheet.
 const MOST_SHEET: usize = 9010;
 
-// The third number of the A line: the column of a malformed line, and otherwise the cost.
-fn figure(o: Outcome) -> u32
-    requires { third (result_of o) < 100000 }
-    ensures { result ≡ third (result_of o) }
+// The A line of an outcome: its number, its place, and the column of a malformed line or else the cost.
+fn head(outcome: Outcome) -> Head
+    requires { Printable (result_of outcome) }
+    ensures { Heads (result_of outcome) result }
 {
-    if o.number == MALFORMED {
-        return narrow(o.column);
+    match outcome.answer {
+        Ok(found) => Head {
+            number: 0,
+            place: 0,
+            figure: found.cost,
+        },
+        Err(cause) => {
+            let malformed = cause.refusal == Refusal::Malformed;
+            Head {
+                number: u32::from(cause.refusal),
+                place: cause.place as u32,
+                figure: if malformed { cause.column as u32 } else { 0 },
+            }
+        }
     }
-    o.cost
 }
 
-// What the listing shows of an outcome.
-fn shown(o: Outcome) -> Shown
-    requires { Printable (result_of o) }
-    ensures { result ≡ shown_of (result_of o) }
+// Puts the listing of a refusal at the beginning of `out`, and returns its length.
+fn put_refusal(cause: Cause, out: &mut [u8]) -> usize
+    requires { refused_listing }
+    ensures { refused_listing }
 {
-    let place = narrow(o.place);
-    let plan = o.plan;
-    Shown {
-        number: o.number,
-        place,
-        figure: figure(o),
-        found: o.number == 0,
-        plan,
-    }
+    put_listing(out, head(Outcome::refused(cause, 0)), None, &[])
 }
 
 // Puts what the program prints at the beginning of `out`, and returns its length. A buffer that is shorter than the longest
 // listing is left as it was, and the length is 0.
-pub fn put_output(read: Cause, sheet: &Words, out: &mut [u8]) -> usize
-    ghost r: { Read }
-    requires sheet_value { told read sheet.now ≡ r }
-    requires source { Source r }
-    ensures { listing_result result out.new ≡ listing_of r out.old }
+pub fn put_output(read: &Result<Sheet, Cause>, out: &mut [u8]) -> usize
+    requires { Source (told read.now) }
+    ensures { listing_result result out.new ≡ listing_of (told read.now) out.old }
 {
     if out.len() < MOST_BYTES {
         return 0;
     }
-    let mut list = [0u32; ROOM];
-    let o = answer(read, sheet, &mut list);
-    let n = o.length;
-    put_listing(out, shown(o), sheet, &list[..n])
+    match read {
+        Ok(sheet) => {
+            let mut list = [0u32; ROOM];
+            let outcome = answer(sheet, &mut list);
+            let found = outcome.answer.ok().map(|c| Found {
+                sheet,
+                plan: c.plan,
+            });
+            put_listing(out, head(outcome), found, &list[..outcome.length])
+        }
+        Err(cause) => put_refusal(*cause, out),
+    }
 }
 
 // Puts the sheet, or the listing of a refusal, at the beginning of `out`, and returns its length. A buffer that is shorter than the
 // longest sheet is left as it was, and the length is 0.
-pub fn put_sheet(read: Cause, sheet: &Words, out: &mut [u8]) -> usize
-    ghost r: { Read }
-    requires sheet_value { told read sheet.now ≡ r }
-    requires source { Source r }
-    ensures { listing_result result out.new ≡ converted_of r out.old }
+pub fn put_sheet(read: &Result<Sheet, Cause>, out: &mut [u8]) -> usize
+    requires { Source (told read.now) }
+    ensures { listing_result result out.new ≡ converted_of (told read.now) out.old }
 {
     if out.len() < MOST_SHEET {
         return 0;
     }
-    if read.number != 0 {
-        let nothing = [0u32; 1];
-        return put_listing(out, shown(refused(read, 0)), sheet, &nothing[..0]);
+    match read {
+        Ok(sheet) => write(sheet.words(), out).unwrap_or(0),
+        Err(cause) => put_refusal(*cause, out),
     }
-    write(sheet, out).length
 }

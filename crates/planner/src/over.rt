@@ -18,7 +18,7 @@ pub fn answer<F: Form>(s: &[u8], list: &mut [u32]) -> Outcome
 {
     match F::read(s) {
         Ok(sheet) => jobs::answer::answer(&sheet, list),
-        Err(cause) => Outcome::refused(cause),
+        Err(cause) => Outcome::refused(cause, 0),
     }
 }
 
@@ -28,7 +28,7 @@ pub fn short_run<F: Form>(s: &[u8], patterns: &[u32]) -> Outcome
 {
     match F::read(s) {
         Ok(sheet) => jobs::answer::short_run(&sheet, patterns),
-        Err(cause) => Outcome::refused(cause),
+        Err(cause) => Outcome::refused(cause, 0),
     }
 }
 
@@ -36,8 +36,7 @@ pub fn short_run<F: Form>(s: &[u8], patterns: &[u32]) -> Outcome
 pub fn rate<F: Form>(s: &[u8], plan: Plan) -> Result<Rating, Cause>
     ensures { IsRating (F.Reading s.now) plan.0 (rating_of result) }
 {
-    let sheet = F::read(s)?;
-    jobs::rating::rate(&sheet, plan)
+    jobs::rating::rate(&F::read(s)?, plan)
 }
 
 // Demand 3: Answer, then Short run over what it listed, and over the first `j` words of that.

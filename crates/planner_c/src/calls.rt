@@ -1,5 +1,5 @@
 // The calls for C and Rust. Each returns the number, and writes every other figure through a pointer.
-ghost use Rattle.std.specs.Prelude.{[], ◌∷◌, ◌≡◌};
+ghost use Rattle.std.specs.Prelude.{ℕ, List, [], ◌∷◌, ◌≡◌};
 ghost use Rattle.scope.specs.Sheet.{field_count};
 ghost use Rattle.scope.specs.Sheets.{SheetRead};
 ghost use Rattle.scope.specs.Texts.{TextRead};
@@ -7,49 +7,78 @@ ghost use Rattle.scope.specs.Source.{Gives};
 ghost use Rattle.scope.specs.Jobs as jobs;
 ghost use Rattle.scope.specs.Jobs.{answered, IsAnswer, IsShortRun};
 ghost use Rattle.scope.specs.Writing.{written, IsWritten};
-ghost use Rattle.scope.specs.Program.{one, listing_result, IsListing};
+ghost use Rattle.scope.specs.Program.{listing_result, IsListing};
 ghost use Rattle.scope.specs.Filling.{read_result, IsRead};
 ghost use Rattle.jobs.specs.Figures.{result_of, rating_of, figures, rating_figures};
+ghost use Rattle.planner.specs.Returned.{read_from};
 
 use jobs::outcome::{Outcome, Rating};
-use planner::{sheets, texts};
-use words::convert::flag;
+use planner::{Fixed, Typed};
+use words::refusal::Cause;
 use words::{Plan, Words};
 use writer::write::write;
 
-// Hands the figures out.
+// the number where nothing is refused
+const DONE: u32 = 0;
+
+// Hands a cause out, or that there is none.
+fn hand_cause(done: Result<(), Cause>, place: &mut usize, column: &mut usize) -> u32
+    ensures { (u : List ℕ) → read_result result place.new column.new u ≡ read_from done u }
+{
+    match done {
+        Ok(()) => {
+            *place = 0;
+            *column = 0;
+            DONE
+        }
+        Err(cause) => {
+            *place = cause.place;
+            *column = cause.column;
+            u32::from(cause.refusal)
+        }
+    }
+}
+
+// Hands the figures out. Those of a plan are 0 where there is none.
 fn hand_out(
-    r: Outcome,
+    outcome: Outcome,
     place: &mut usize,
     column: &mut usize,
     plan: &mut u32,
     cost: &mut u32,
     length: &mut usize,
 ) -> u32
-    ensures { figures result place.new column.new plan.new cost.new length.new ≡ result_of r }
+    ensures { figures result place.new column.new plan.new cost.new length.new ≡ result_of outcome }
 {
-    *place = r.place;
-    *column = r.column;
-    *plan = r.plan.0;
-    *cost = r.cost;
-    *length = r.length;
-    r.number
+    (*plan, *cost) = match outcome.answer {
+        Ok(found) => (found.plan.0, found.cost),
+        Err(_) => (0, 0),
+    };
+    *length = outcome.length;
+    hand_cause(outcome.answer.map(|_| ()), place, column)
 }
 
 fn hand_out_rating(
-    rating: Rating,
+    rating: Result<Rating, Cause>,
+    place: &mut usize,
+    column: &mut usize,
     cost: &mut u32,
     sound: &mut u32,
     pattern: &mut u32,
     length: &mut usize,
 ) -> u32
-    ensures { rating_figures (rating_of rating) ≡ result ∷ rating.place ∷ rating.column ∷ cost.new ∷ sound.new ∷ pattern.new ∷ length.new ∷ [] }
+    ensures { rating_figures (rating_of rating) ≡ result ∷ place.new ∷ column.new ∷ cost.new ∷ sound.new ∷ pattern.new ∷ length.new ∷ [] }
 {
-    *cost = rating.cost;
-    *sound = flag(rating.sound);
-    *pattern = rating.pattern.0;
-    *length = rating.length;
-    rating.number
+    (*cost, *sound, *pattern) = match rating {
+        Ok(r) => (
+            r.cost,
+            u32::from(r.missed.is_none()),
+            r.missed.map_or(0, |q| q.0),
+        ),
+        Err(_) => (0, 0, 0),
+    };
+    *length = 0;
+    hand_cause(rating.map(|_| ()), place, column)
 }
 
 #[unsafe(no_mangle)]
@@ -65,7 +94,7 @@ pub extern "C" fn comzsered_answer(
     ensures { IsAnswer (SheetRead field_count sheet.now) list.old (answered (figures result place.new column.new plan.new cost.new length.new) list.new) }
 {
     hand_out(
-        sheets::answer(sheet, list),
+        planner::answer::<Fixed>(sheet, list),
         place,
         column,
         plan,
@@ -87,7 +116,7 @@ pub extern "C" fn comzsered_short_run(
     ensures { IsShortRun (SheetRead field_count sheet.now) patterns.now (figures result place.new column.new plan.new cost.new length.new) }
 {
     hand_out(
-        sheets::short_run(sheet, patterns),
+        planner::short_run::<Fixed>(sheet, patterns),
         place,
         column,
         plan,
@@ -109,17 +138,22 @@ pub extern "C" fn comzsered_rating(
 ) -> u32
     ensures { Gives (SheetRead field_count sheet.now) (λ q. rating_figures (jobs.rating_of q plan)) (result ∷ place.new ∷ column.new ∷ cost.new ∷ sound.new ∷ pattern.new ∷ length.new ∷ []) }
 {
-    let rating = sheets::rate(sheet, Plan(plan));
-    *place = rating.place;
-    *column = rating.column;
-    hand_out_rating(rating, cost, sound, pattern, length)
+    hand_out_rating(
+        planner::rate::<Fixed>(sheet, Plan(plan)),
+        place,
+        column,
+        cost,
+        sound,
+        pattern,
+        length,
+    )
 }
 
 #[unsafe(no_mangle)]
 pub extern "C" fn comzsered_listing(sheet: &[u8], out: &mut [u8]) -> usize
     ensures { IsListing (SheetRead field_count sheet.now) out.old (listing_result result out.new) }
 {
-    sheets::print_listing(sheet, out)
+    planner::print_listing::<Fixed>(sheet, out)
 }
 
 // The same for a typed text.
@@ -136,7 +170,7 @@ pub extern "C" fn comzsered_text_answer(
 ) -> u32
     ensures { IsAnswer (TextRead text.now) list.old (answered (figures result place.new column.new plan.new cost.new length.new) list.new) }
 {
-    hand_out(texts::answer(text, list), place, column, plan, cost, length)
+    hand_out(planner::answer::<Typed>(text, list), place, column, plan, cost, length)
 }
 
 #[unsafe(no_mangle)]
@@ -152,7 +186,7 @@ pub extern "C" fn comzsered_text_short_run(
     ensures { IsShortRun (TextRead text.now) patterns.now (figures result place.new column.new plan.new cost.new length.new) }
 {
     hand_out(
-        texts::short_run(text, patterns),
+        planner::short_run::<Typed>(text, patterns),
         place,
         column,
         plan,
@@ -174,17 +208,22 @@ pub extern "C" fn comzsered_text_rating(
 ) -> u32
     ensures { Gives (TextRead text.now) (λ q. rating_figures (jobs.rating_of q plan)) (result ∷ place.new ∷ column.new ∷ cost.new ∷ sound.new ∷ pattern.new ∷ length.new ∷ []) }
 {
-    let rating = texts::rate(text, Plan(plan));
-    *place = rating.place;
-    *column = rating.column;
-    hand_out_rating(rating, cost, sound, pattern, length)
+    hand_out_rating(
+        planner::rate::<Typed>(text, Plan(plan)),
+        place,
+        column,
+        cost,
+        sound,
+        pattern,
+        length,
+    )
 }
 
 #[unsafe(no_mangle)]
 pub extern "C" fn comzsered_text_listing(text: &[u8], out: &mut [u8]) -> usize
     ensures { IsListing (TextRead text.now) out.old (listing_result result out.new) }
 {
-    texts::print_listing(text, out)
+    planner::print_listing::<Typed>(text, out)
 }
 
 // Tables from a sheet and from a typed text, and a sheet from its tables.
@@ -198,10 +237,7 @@ pub extern "C" fn comzsered_read(
 ) -> u32
     ensures { IsRead (SheetRead field_count sheet.now) tables.old (read_result result place.new column.new tables.new) }
 {
-    let cause = sheets::read(sheet, tables);
-    *place = cause.place;
-    *column = cause.column;
-    cause.number
+    hand_cause(planner::read::<Fixed>(sheet, tables), place, column)
 }
 
 #[unsafe(no_mangle)]
@@ -213,10 +249,7 @@ pub extern "C" fn comzsered_text_read(
 ) -> u32
     ensures { IsRead (TextRead text.now) tables.old (read_result result place.new column.new tables.new) }
 {
-    let cause = texts::read(text, tables);
-    *place = cause.place;
-    *column = cause.column;
-    cause.number
+    hand_cause(planner::read::<Typed>(text, tables), place, column)
 }
 
 #[unsafe(no_mangle)]
@@ -229,9 +262,7 @@ pub extern "C" fn comzsered_write(
 ) -> u32
     ensures { IsWritten field_count tables.now out.old (written result place.new column.new length.new out.new) }
 {
-    let w = write(tables, out);
-    *place = w.place;
-    *column = w.column;
-    *length = w.length;
-    w.number
+    let written = write(tables, out);
+    *length = written.unwrap_or(0);
+    hand_cause(written.map(|_| ()), place, column)
 }
