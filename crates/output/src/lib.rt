@@ -2,12 +2,14 @@
 // `jobs` for the outcome, and on `listing` and `writer` for its bytes.
 #![tactic(auto)]
 
-ghost use Rattle.std.specs.Prelude.{◌≡◌};
+ghost use Rattle.std.specs.Prelude.{◌≡◌, ◌*◌, ◌≤◌, length, Err};
+ghost use Rattle.scope.specs.Causes.{accepted};
 ghost use Rattle.scope.specs.Source.{Source};
-ghost use Rattle.scope.specs.Program.{listing_result, listing_of, converted_of};
+ghost use Rattle.scope.specs.Program.{output_rows, most_output, listing_result, listing_of, converted_of};
 ghost use Rattle.words.specs.Told.{told};
 ghost use Rattle.jobs.specs.Figures.{result_of};
-ghost use Rattle.output.specs.Steps.{Printable, Heads, refused_listing};
+ghost use Rattle.listing.specs.Rows.{row_size, Wrote};
+ghost use Rattle.output.specs.Steps.{Printable, Heads};
 
 use jobs::answer::answer;
 use jobs::outcome::Outcome;
@@ -42,10 +44,32 @@ fn head(outcome: Outcome) -> Head
     }
 }
 
+// Puts the listing of Answer's outcome at the beginning of `out`, and returns its length.
+fn put_answer(sheet: &Sheet, out: &mut [u8]) -> usize
+    requires source { Source (accepted sheet.now) }
+    requires room { most_output ≤ length out.old }
+    ensures { Wrote out.old (output_rows (accepted sheet.now)) out.new result }
+{
+    let mut list = [0u32; ROOM];
+    let outcome = answer(sheet, &mut list);
+    let listed = &list[..outcome.length];
+    match outcome.answer {
+        Ok(best) => {
+            let found = Found {
+                sheet,
+                plan: best.plan,
+            };
+            put_listing(out, head(outcome), Some(found), listed)
+        }
+        Err(_) => put_listing(out, head(outcome), None, listed),
+    }
+}
+
 // Puts the listing of a refusal at the beginning of `out`, and returns its length.
 fn put_refusal(cause: Cause, out: &mut [u8]) -> usize
-    requires { refused_listing }
-    ensures { refused_listing }
+    requires source { Source (told (Err cause)) }
+    requires room { row_size * 2 ≤ length out.old }
+    ensures { Wrote out.old (output_rows (told (Err cause))) out.new result }
 {
     put_listing(out, head(Outcome::refused(cause, 0)), None, &[])
 }
@@ -60,15 +84,7 @@ pub fn put_output(read: &Result<Sheet, Cause>, out: &mut [u8]) -> usize
         return 0;
     }
     match read {
-        Ok(sheet) => {
-            let mut list = [0u32; ROOM];
-            let outcome = answer(sheet, &mut list);
-            let found = outcome.answer.ok().map(|c| Found {
-                sheet,
-                plan: c.plan,
-            });
-            put_listing(out, head(outcome), found, &list[..outcome.length])
-        }
+        Ok(sheet) => put_answer(sheet, out),
         Err(cause) => put_refusal(*cause, out),
     }
 }
@@ -84,6 +100,6 @@ pub fn put_sheet(read: &Result<Sheet, Cause>, out: &mut [u8]) -> usize
     }
     match read {
         Ok(sheet) => write(sheet.words(), out).unwrap_or(0),
-        Err(cause) => put_refusal(*cause, out),
+        Err(refused) => put_refusal(*refused, out),
     }
 }

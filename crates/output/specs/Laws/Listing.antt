@@ -6,7 +6,8 @@ use Rattle.std.proofs.lemmas.List.{length-replicate}
 use Rattle.scope.specs.Sheet.{Sheet, fits, most_switches, most_wishes, All, Valid}
 use Rattle.scope.specs.Causes.{Read, accepted, refused}
 use Rattle.scope.specs.Source.{Source}
-use Rattle.scope.specs.Jobs.{Answer, answer_of, over}
+use Rattle.scope.specs.Jobs.{refusal, found, Answer, answered, answer_of, over}
+use Rattle.scope.specs.Jobs as jobs
 use Rattle.scope.specs.Demands.{listed}
 use Rattle.scope.specs.Program.{Row, row, each, pattern_row, plan_rows, found_rows, third, answer_rows, ended, room, output_rows, rows_bytes, output, most_output, ListingResult, listing_result, placed, listing_of, IsListing}
 use Rattle.scope.proofs.Laws.Outputs.{output_fits, listed_small}
@@ -15,7 +16,6 @@ use Rattle.words.specs.declared.refusal.Refusal.{Refusal}
 use Rattle.words.specs.declared.refusal.Refusal.TheVariants.{Length, Malformed, Order, Range, Limit, Fields, Count, NoPlan, NoRoom, HighPlan, HighPattern, Illegal, TooShort}
 use Rattle.words.specs.Refusals.{number_of}
 use Rattle.words.specs.Told.{told}
-use Rattle.search.specs.declared.best.Candidate.{Candidate}
 use Rattle.listing.specs.declared.shown.Head.{Head}
 use Rattle.listing.specs.declared.shown.Found.{Found}
 use Rattle.listing.specs.Rows.{Wrote, Small}
@@ -63,22 +63,28 @@ figures_fit r h = head_fits r (answer_of r (replicate room 0)) (output_fits r h)
 
 -- ---- what Answer returned for what was read, o, and left in the program's list, l
 
+lengths : (o : Outcome) → (result_of o).length ≡ o.length
+lengths o = go o.answer
+  where
+    go : (a : Result _ Cause) → (answer_figures a o.length).length ≡ o.length
+    go (Ok c) = refl
+    go (Err e) = refl
+
 module _ (r : Read) (h : Source r) (o : Outcome) (l : List ℕ) (g : answer_from o l ≡ answer_of r (replicate room 0)) where
   pub printable : Printable (result_of o)
   printable = subst (λ a. Printable a.result) (sym g) (figures_fit r h)
 
-  pub length_small : (result_of o).length ≤ room
-  length_small = subst (λ a. a.result.length ≤ room) (sym g) (rw length-replicate at (listed_small r h (replicate room 0)).0)
-
-  pub words_small : Small (take (result_of o).length l)
+  pub words_small : Small (take o.length l)
   words_small i k =
       let m : (i : ℕ) → i < length (listed (answer_from o l)) → get_or (listed (answer_from o l)) i 0 < 65536 = subst (λ a. (i : ℕ) → i < length (listed a) → get_or (listed a) i 0 < 65536) (sym g) (listed_small r h (replicate room 0)).1 in
-      omega (arith, m i k)
+      let n : (i : ℕ) → i < length (take o.length l) → get_or (take o.length l) i 0 < 65536 = subst (λ n. (i : ℕ) → i < length (take n l) → get_or (take n l) i 0 < 65536) (lengths o) m in
+      omega (arith, n i k)
 
   -- the rows are those of what was read, if the plan's are
-  pub rows_are : (d : Head) (f : Option Found) → Heads (result_of o) d → plan_rows_of f ≡ found_rows r (result_of o) → listing_rows d f (take (result_of o).length l) ≡ output_rows r
+  pub rows_are : (d : Head) (plan : List Row) → Heads (result_of o) d → plan ≡ found_rows r (result_of o) → ended (row "A" d.number d.place d.figure ∷ plan ++ each pattern_row 1 (take o.length l)) ≡ output_rows r
   unfolding output_rows
-  rows_are d f e p = rw (e.number, e.place, e.figure, p) (ap (λ a. ended (answer_rows r a)) g)
+  rows_are d plan e p =
+      subst (λ n. ended (row "A" d.number d.place d.figure ∷ plan ++ each pattern_row 1 (take n l)) ≡ output_rows r) (lengths o) (rw (e.number, e.place, e.figure, p) (ap (λ a. ended (answer_rows r a)) g))
 
 -- ---- the plan's rows are shown exactly if a plan was found
 
@@ -97,11 +103,19 @@ refused_number HighPattern e = absurd (omega arith)
 refused_number Illegal e = absurd (omega arith)
 refused_number TooShort e = absurd (omega arith)
 
-pub none_found : (t : Sheet) (c : Cause) (n : ℕ) → [] ≡ found_rows (accepted t) (answer_figures (Err c) n)
-none_found t c n = rw (ne_eqb (number_of c.refusal) 0 (refused_number c.refusal))
+pub some_found : (t : Sheet) {r : jobs.Result} {p c n : ℕ} → r ≡ found p c n → plan_rows t p ≡ found_rows (accepted t) r
+some_found t e = rw e refl
 
-pub plan_few : (t : Sheet) → Valid t → t.switches + length t.wishes ≤ most_switches + most_wishes
-plan_few t v = omega (arith, v.switches, v.few_wishes)
+pub none_found : (t : Sheet) {r : jobs.Result} (c : Cause) {n : ℕ} → r ≡ refusal (number_of c.refusal) c.place c.column n → [] ≡ found_rows (accepted t) r
+none_found t c e = rw (e, ne_eqb (number_of c.refusal) 0 (refused_number c.refusal)) refl
+
+-- ---- a refusal, of which Answer gives the outcome o, has no rows of a plan and none of patterns
+
+pub refused_rows : (c : Cause) → Source (told (Err c)) → (o : Outcome) → result_of o ≡ refusal (number_of c.refusal) c.place c.column 0 → (d : Head) → Heads (result_of o) d → listing_rows d None [] ≡ output_rows (told (Err c))
+unfolding each
+refused_rows c h o e d heads =
+    let none : o.length ≡ 0 = sym (lengths o) ∙ ap (λ r. r.length) e in
+    rw none at (rows_are (told (Err c)) h o (replicate room 0) (ap (λ r. answered r (replicate room 0)) e) d [] heads refl)
 
 -- ---- it stands in a buffer that has room for the longest
 
