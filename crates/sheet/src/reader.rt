@@ -1,126 +1,136 @@
 // Reading a sheet: its length is tested, then the lines from the first, each of which is put into the words or turns the sheet down.
-ghost use Rattle.std.specs.Prelude.{[], ◌∷◌, ◌≡◌, ◌≤◌};
-ghost use Rattle.std.proofs.Math.Option.{some};
+ghost use Rattle.std.specs.Prelude.{◌≡◌, ◌≤◌, ◌<◌, true, length, take};
+ghost use Rattle.scope.specs.Sheet as scope;
 ghost use Rattle.scope.specs.Sheet.{field_count, most_literals};
-ghost use Rattle.scope.specs.Causes.{clause, started};
+ghost use Rattle.scope.specs.Causes.{clause, line_size, length_ok};
 ghost use Rattle.scope.specs.Sheets.{SheetRead};
-ghost use Rattle.scope.specs.Reading.{joined};
-ghost use Rattle.scope.specs.Words.{wish_words, words_of};
-ghost use Rattle.words.specs.Told.{Fills};
-ghost use Rattle.line.specs.Lines.{letter_from, numbers_from};
-ghost use Rattle.sheet.specs.Steps.{AreLiterals, Suited, Takes, Sized};
+ghost use Rattle.scope.specs.Words.{literal_code, wish_words};
+ghost use Rattle.field.specs.Columns.{number_from};
+ghost use Rattle.words.specs.Entries.{counts_from};
+ghost use Rattle.words.specs.Told.{told};
+ghost use Rattle.line.specs.Lines.{numbers_from, line_from};
+ghost use Rattle.sheet.specs.Steps.{AreLiterals, Suited, Takes, LineTold};
 
-use causes::line_fault;
+use causes::Place;
 use field::Number;
-use line::line::{FIELD_COUNT, Letter, MOST_FIELDS, line_at, line_size, nth};
-use words::convert::{both, from_byte};
+use line::{FIELD_COUNT, Letter, Line, line_at, line_size};
 use words::counts::{counts_of, put_head};
 use words::gate::{Gate, put_gate};
-use words::limit::{MOST_GATES, MOST_LITERALS, MOST_RULES, MOST_WISHES};
-use words::literal::literal_code;
-use words::refusal::{Cause, LENGTH};
+use words::limit::{MOST_GATES, MOST_RULES, MOST_WISHES};
+use words::literal::Literal;
+use words::refusal::{Cause, Refusal};
 use words::rule::put_rule;
+use words::sheet::Sheet;
 use words::wish::{Wish, put_wish};
-use words::{Words, letter};
+use words::{WORDS, Words};
 
 // H, Z and as many others as there may be
 const MOST_LINES: usize = (MOST_GATES + MOST_RULES + MOST_WISHES) as usize + 2;
 
+// ---- a line that met its tests, into the words
+
+fn code(x: Number) -> u32
+    requires { x.size ≤ 99 }
+    ensures { result ≡ literal_code (number_from x) }
+{
+    let literal = Literal {
+        minus: x.minus,
+        switch: x.size,
+    };
+    literal.code()
+}
+
 // The wish that the first fields say.
-fn wish_of(xs: [Number; MOST_FIELDS]) -> Wish
-    requires { AreLiterals (numbers_from most_literals xs) }
-    ensures { result.first ∷ result.second ∷ result.third ∷ [] ≡ wish_words (clause (numbers_from most_literals xs)) }
+fn wish_of(numbers: &[Number]) -> Wish
+    requires wide { 3 ≤ length numbers.now }
+    requires literals { AreLiterals (take most_literals (numbers_from numbers.now)) }
+    ensures { result ≡ wish_words (clause (take most_literals (numbers_from numbers.now))) }
 {
-    let x = nth(xs, 0, MOST_LITERALS);
-    let y = nth(xs, 1, MOST_LITERALS);
-    let z = nth(xs, 2, MOST_LITERALS);
-    Wish {
-        first: literal_code(x.minus, x.size),
-        second: literal_code(y.minus, y.size),
-        third: literal_code(z.minus, z.size),
-    }
+    [code(numbers[0]), code(numbers[1]), code(numbers[2])]
 }
 
-fn gate_of(kind: u8, left: u32, right: u32) -> Gate
-    ensures { result.kind ∷ result.left ∷ result.right ∷ [] ≡ kind ∷ left ∷ right ∷ [] }
+fn take_line<const N: usize>(words: &mut Words, line: &Line<N>)
+    requires wide { 3 ≤ N }
+    requires suited { Suited (line_from line.now) }
+    ensures { Takes (line_from line.now) words.old words.new }
 {
-    Gate {
-        kind: from_byte(kind),
-        left,
-        right,
-    }
-}
-
-// One more line, which met its tests, into the words.
-fn take_line(sheet: &mut Words, letter: Letter, xs: [Number; MOST_FIELDS], n: usize)
-    requires { Suited (joined (letter_from letter) (some (numbers_from n xs))) × (3 ≤ n) × (n ≤ 4) }
-    ensures { Takes (joined (letter_from letter) (some (numbers_from n xs))) sheet.old sheet.new }
-{
-    let x = nth(xs, 0, n).size;
-    let y = nth(xs, 1, n).size;
-    match letter {
-        Letter::Head => put_head(sheet, x, y),
-        Letter::Not => put_gate(sheet, gate_of(letter::NOT, x, 0)),
-        Letter::And => put_gate(sheet, gate_of(letter::AND, x, y)),
-        Letter::Or => put_gate(sheet, gate_of(letter::OR, x, y)),
-        Letter::Rule => put_rule(sheet, x),
-        Letter::Wish => put_wish(sheet, wish_of(xs)),
+    let x = line.numbers[0].size;
+    let y = line.numbers[1].size;
+    match line.letter {
+        Letter::Head => put_head(words, x, y),
+        Letter::Not => put_gate(words, Gate::Not(x)),
+        Letter::And => put_gate(words, Gate::And(x, y)),
+        Letter::Or => put_gate(words, Gate::Or(x, y)),
+        Letter::Rule => put_rule(words, x),
+        Letter::Wish => put_wish(words, wish_of(&line.numbers)),
         Letter::End => {}
-        Letter::Unknown => {}
     }
+}
+
+// ---- line by line
+
+// The line at a place, if it is formed and meets its tests.
+fn line_in<const N: usize>(bytes: &[u8], place: &Place<N>) -> Result<Line<N>, Cause>
+    requires whole { length bytes.now ≡ line_size N }
+    requires counted { place.now.index < usize.MAX }
+    ensures { (t : scope.Sheet) → place.now.before ≡ counts_from t → LineTold N bytes.now t place.now.index place.now.last result }
+{
+    let number = place.index + 1;
+    let line = line_at::<N>(bytes).map_err(|stop| Cause {
+        refusal: Refusal::Malformed,
+        place: number,
+        column: stop.column,
+    })?;
+    place
+        .fault(&line)
+        .map_err(|refusal| Cause::at(refusal, number))?;
+    Ok(line)
 }
 
 // The lines of a sheet whose length is right.
-fn read_lines(s: &[u8], sheet: &mut Words, n: usize, size: usize, count: usize) -> Cause
-    requires { Sized n s.now size count × (sheet.old ≡ words_of (started 0 0)) }
-    ensures { Fills (SheetRead n s.now) result sheet.new }
+fn read_lines<const N: usize>(s: &[u8]) -> Result<Sheet, Cause>
+    requires form { (3 ≤ N) × (N ≤ 4) }
+    requires right { length_ok N (length s.now) ≡ true }
+    ensures { SheetRead N s.now (told result) }
 {
-    let mut k = 0;
-    while k < count {
-        let l = line_at(s, k * size, n);
-        let fault = line_fault(counts_of(sheet), l, k, k + 1 == count, n);
-        if fault != 0 {
-            return Cause {
-                number: fault,
-                place: k + 1,
-                column: l.column,
-            };
-        }
-        let letter = l.letter;
-        let xs = l.numbers;
-        take_line(sheet, letter, xs, n);
-        k += 1;
+    let size = line_size(N);
+    let count = s.len() / size;
+    let mut words = [0; WORDS];
+    for (k, bytes) in s.chunks_exact(size).enumerate() {
+        let place = Place::<N> {
+            before: counts_of(&words),
+            index: k,
+            last: k + 1 == count,
+        };
+        let line = line_in::<N>(bytes, &place)?;
+        take_line(&mut words, &line);
     }
-    Cause {
-        number: 0,
-        place: 0,
-        column: 0,
-    }
+    Ok(Sheet::new(words))
 }
 
-// A sheet whose lines have n fields.
-fn read_form(s: &[u8], sheet: &mut Words, n: usize) -> Cause
-    requires { (3 ≤ n) × (n ≤ 4) × (sheet.old ≡ words_of (started 0 0)) }
-    ensures { Fills (SheetRead n s.now) result sheet.new }
+// Whether so many bytes make whole lines of N fields, not too many.
+fn is_length<const N: usize>(bytes: usize) -> bool
+    requires { N ≤ 4 }
+    ensures { result ≡ length_ok N bytes }
 {
-    let size = line_size(n);
-    let bytes = s.len();
-    let whole = both(bytes <= MOST_LINES * size, bytes % size == 0);
-    let right = both(0 < bytes, whole);
-    if right {
-        return read_lines(s, sheet, n, size, bytes / size);
-    }
-    Cause {
-        number: LENGTH,
-        place: 0,
-        column: 0,
-    }
+    let size = line_size(N);
+    0 < bytes && (bytes <= MOST_LINES * size && bytes % size == 0)
 }
 
-// Fills the words, which are those of the empty sheet, with what a sheet says, or tells the first cause to turn it down.
-pub fn read(s: &[u8], sheet: &mut Words) -> Cause
-    requires { sheet.old ≡ words_of (started 0 0) }
-    ensures { Fills (SheetRead field_count s.now) result sheet.new }
+// A sheet whose lines have N fields.
+fn read_form<const N: usize>(s: &[u8]) -> Result<Sheet, Cause>
+    requires { (3 ≤ N) × (N ≤ 4) }
+    ensures { SheetRead N s.now (told result) }
 {
-    read_form(s, sheet, FIELD_COUNT)
+    if !is_length::<N>(s.len()) {
+        return Err(Cause::at(Refusal::Length, 0));
+    }
+    read_lines::<N>(s)
+}
+
+// What a sheet says, or the first cause to turn it down.
+pub fn read(s: &[u8]) -> Result<Sheet, Cause>
+    ensures { SheetRead field_count s.now (told result) }
+{
+    read_form::<FIELD_COUNT>(s)
 }

@@ -1,29 +1,41 @@
--- A line that does not meet a test is the first cause, and one that meets all is put into the words.
-use Rattle.std.proofs.Common.{arith}
-use Rattle.scope.proofs.Laws.Scans.{before}
-use Rattle.sheet.proofs.reader.Lines.{begun, line-fits, few, suited, reached-next, turned_down, taken_in}
+-- A line that is turned down is the first cause, and one that is not is put into the words.
+use Rattle.std.proofs.Common.{rules, ap, ◌∙◌, ◌/◌, length}
+use Rattle.std.proofs.lemmas.Result.{err_from_is_err_and}
+use Rattle.words.specs.Laws.Sheets.{zero_words}
+use Rattle.sheet.proofs.Lines.{begun, few, turned_down, suited, reading, held_valid, held_words, taken_in}
 use Rattle.sheet.proofs.reader.read_lines.Goals as goal
 
 pub loop-k-init : goal.loop-k-init
-loop-k-init c = begun _ _ _ c.requires.1
+loop-k-init g c =
+    let e = c.enumerate-k-items.ensures in
+    rw (c.into_iter-k-iterator.ensures.into_iter_gives, e.count, e.source, c.chunks_exact.ensures.rest) (begun _ _ _ _ c.requires.form.0 c.requires.right (c.chunks_exact.ensures.size ∙ c.line_size-size.ensures) zero_words)
 
-pub overflow_mul-k : goal.overflow_mul-k
-overflow_mul-k c = omega (arith, line-fits _ _ _ _ _ c.requires.0 c.loop-k-test.true)
+pub invariant_of-place : goal.invariant_of-place
+invariant_of-place g c = record { few = few _ _ _ _ _ _ c.loop-k.invariant _ c.counts_of.ensures; form = c.requires.form.0 }
 
-pub line_at-l-requires : goal.line_at-l-requires
-line_at-l-requires c = (c.requires.0.most, line-fits _ _ _ _ _ c.requires.0 c.loop-k-test.true)
-
-pub line_fault-fault-requires : goal.line_fault-fault-requires
-line_fault-fault-requires c = (few _ _ _ _ c.loop-k.invariant _ c.counts_of.ensures, c.requires.0.least, c.requires.0.most)
-
-pub returns-then-fault-ne0 : goal.returns-then-fault-ne0
-returns-then-fault-ne0 c = turned_down _ _ _ _ _ _ _ _ _ c.requires.0 c.loop-k.invariant c.loop-k-test.true c.line_at-l.ensures c.counts_of.ensures c.line_fault-fault.ensures c.if-fault-ne0.true
+pub returns-in_err-line : goal.returns-in_err-line
+returns-in_err-line g c =
+    let p = err_from_is_err_and c.from_residual.result c.from_residual.ensures.1 in
+    let a = c.in-Some.ensures.steps in
+    let r = rw (← a.1) at c.loop-k.invariant in
+    rw (p.1, p.2) (turned_down _ _ _ _ _ _ r _ c.counts_of.ensures _ _ a.0.1.0 a.0.1.1 _ (ap (λ z. length c.args.s.now / z) c.line_size-size.ensures) _ c.in_err-line.ensures)
 
 pub take_line-requires : goal.take_line-requires
-take_line-requires c = ((before _ _ _, suited _ _ _ _ _ _ _ _ _ c.requires.0 c.loop-k.invariant c.loop-k-test.true c.line_at-l.ensures c.counts_of.ensures c.line_fault-fault.ensures c.if-fault-ne0.false), c.requires.0.least, c.requires.0.most)
+take_line-requires g c =
+    let a = c.in-Some.ensures.steps in
+    let r = rw (← a.1) at c.loop-k.invariant in
+    (search rules, (c.requires.form.0, suited _ _ _ _ _ _ r _ c.counts_of.ensures _ _ a.0.1.0 a.0.1.1 _ (ap (λ z. length c.args.s.now / z) c.line_size-size.ensures) _ c.in_ok-line.ensures))
 
 pub loop-k-preserved : goal.loop-k-preserved
-loop-k-preserved c = reached-next _ _ _ _ _ _ _ _ _ c.requires.0 c.loop-k.invariant c.loop-k-test.true c.line_at-l.ensures c.counts_of.ensures c.line_fault-fault.ensures _ c.if-fault-ne0.false c.take_line.ensures
+loop-k-preserved g c =
+    let a = c.in-Some.ensures.steps in
+    let r = rw (← a.1) at c.loop-k.invariant in
+    rw (a.0.0, a.2, ← a.1) (reading _ _ _ _ _ _ r _ c.counts_of.ensures _ _ a.0.1.0 a.0.1.1 _ (ap (λ z. length c.args.s.now / z) c.line_size-size.ensures) _ c.in_ok-line.ensures _ c.take_line.ensures)
+
+pub new-requires : goal.new-requires
+new-requires g c =
+    let short = c.in-None.ensures.steps.0.1.0 in
+    (held_valid _ _ _ _ _ _ c.loop-k.invariant short, held_words _ _ _ _ _ _ c.loop-k.invariant short)
 
 pub returns : goal.returns
-returns c = taken_in _ _ _ _ _ _ c.requires.0 c.loop-k-test.false c.loop-k.invariant
+returns g c = rw c.new.ensures (taken_in _ _ _ _ _ _ c.loop-k.invariant c.in-None.ensures.steps.0.1.0)

@@ -1,12 +1,14 @@
--- The invariant: the first k lines pass, and the words are those of what they say. A line that does not meet a test is the first cause,
--- and the sheet is refused for it; one that meets all is put into the words. At the end all lines pass, so the sheet is accepted as
--- what they say.
-use Rattle.std.proofs.Common.{◌-◌}
-use Rattle.sheet.proofs.reader.Lines.{Reached}
+-- The invariant: the first k lines pass, the words are those of what they say, and the lines from line k on are left. A line that is
+-- turned down is the first cause, and the sheet is refused for it; one that is not is put into the words. At the end all lines pass, so
+-- the sheet is accepted as what they say, which the words hold.
+use Rattle.std.specs.Iterator.Adapters.{enumerate_source, enumerate_count}
+use Rattle.std.specs.Slice.Iter.{chunks_exact_rest, chunks_exact_size}
+use Rattle.scope.specs.Words.{held}
+use Rattle.sheet.proofs.Lines.{Reading}
 use Rattle.sheet.proofs.reader.read_lines.Given as goal
 
-abbrev pub invariant-loop-k : goal.invariant-loop-k
-invariant-loop-k l = Reached l.n l.s l.k l.sheet
+abbrev pub ghost-new : goal.ghost-new
+ghost-new g a = held a.words
 
-abbrev pub decreases-loop-k : goal.decreases-loop-k
-decreases-loop-k l = l.count - l.k
+abbrev pub invariant-loop-k : goal.invariant-loop-k
+invariant-loop-k g l = Reading g.row.N l.s (chunks_exact_size (enumerate_source l.k-iterator)) (chunks_exact_rest (enumerate_source l.k-iterator)) (enumerate_count l.k-iterator) l.words

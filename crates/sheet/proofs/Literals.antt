@@ -1,18 +1,21 @@
 -- The literals of a wish whose fields are right. Assumes nothing.
-use Prim.Native.Nat.{ℕ, zero, suc, ◌≤◌}
+use Prim.Native.Nat.{ℕ, zero, suc, ◌≤◌, ◌<◌}
 use native.Mathlib.Omega.{arith}
 use mathlib.Core.Bool.{Bool, true, false, cond, ◌&&◌}
 use mathlib.Core.List.{List, [], ◌∷◌}
 use mathlib.Core.Path.{◌≡◌, refl, sym, ap, ◌∙◌}
 use lib.Dec.{leb, ltb}
-use lib.ListN.{get_or}
+use lib.ListN.{get_or, take}
+use lib.Seq.{get_or-take}
+use Rattle.std.proofs.Math.ListN.{get_or-map}
 use borrow.Author.Tests.{leb-true}
-use Rattle.scope.specs.Sheet.{Number, plus, Clause}
+use Rattle.scope.specs.Sheet.{Number, plus, most_literals}
 use Rattle.scope.specs.Causes.{is, literal, zeros, literals, clause, at}
 use Rattle.scope.proofs.Laws.Tests.{both}
 use Rattle.scope.proofs.Laws.Steps.{is_plus}
-use Rattle.scope.specs.Words.{literal_code, literal_at, wish_words}
+use Rattle.scope.specs.Words.{literal_code, literal_at}
 use Rattle.field.specs.Columns.{number_from}
+use Rattle.line.specs.Lines.{numbers_from}
 use Rattle.sheet.specs.Steps.{AreLiterals}
 use Rattle.field.specs.declared.Number as made
 
@@ -32,25 +35,30 @@ module _ (a : ℕ) (x : Number) (xs : List Number) (P : Bool → Type 0) where
       go true z e = f z e
       go false z e = let (p, q) = both (literal a x) (literals a xs) e in g p q
 
-pub clause-at : (a : ℕ) (xs : List Number) (i : ℕ) → literals a xs ≡ true → get_or (clause xs) i (plus 0) ≡ at xs i
+clause-at : (a : ℕ) (xs : List Number) (i : ℕ) → literals a xs ≡ true → get_or (clause xs) i (plus 0) ≡ at xs i
 unfolding clause
 clause-at a [] i e = refl
 clause-at a (x ∷ xs) zero e = by_zero a x xs (λ t. get_or (cond t [] (x ∷ clause xs)) 0 (plus 0) ≡ x) e (λ z _. sym (is_plus 0 x z)) (λ _ _. refl)
 clause-at a (x ∷ xs) (suc i) e = by_zero a x xs (λ t. get_or (cond t [] (x ∷ clause xs)) (suc i) (plus 0) ≡ at xs i) e (λ _ z. zeros-at xs i z) (λ _ l. clause-at a xs i l)
 
-pub literals-small : (a : ℕ) (xs : List Number) (i : ℕ) → literals a xs ≡ true → (at xs i).size ≤ a
+literals-small : (a : ℕ) (xs : List Number) (i : ℕ) → literals a xs ≡ true → (at xs i).size ≤ a
 literals-small a [] i e = omega arith
 literals-small a (x ∷ xs) zero e = by_zero a x xs (λ t. x.size ≤ a) e (λ z _. omega (arith, ap (λ y. y.size) (is_plus 0 x z))) (λ l _. leb-true x.size a (both (leb x.size a) (ltb 0 x.size) l).0)
 literals-small a (x ∷ xs) (suc i) e = by_zero a x xs (λ t. (at xs i).size ≤ a) e (λ _ z. omega (arith, ap (λ y. y.size) (zeros-at xs i z))) (λ _ l. literals-small a xs i l)
 
--- x is field i, and r its code
-module _ (xs : List Number) (l : AreLiterals xs) (i : ℕ) (x : made.Number) (e : number_from x ≡ at xs i) where
-  pub code_fits : x.size ≤ 99
-  code_fits = omega (arith, literals-small l.switches xs i l.right, l.few, ap (λ y. y.size) e)
+-- field i of the first three
+module _ (ys : List made.Number) (l : AreLiterals (take most_literals (numbers_from ys))) (i : ℕ) (h : i < most_literals) where
+  abbrev xs : List Number
+  xs = take most_literals (numbers_from ys)
 
-  pub code_is : {r : ℕ} → r ≡ literal_code (number_from x) → r ≡ literal_at i (clause xs)
-  code_is c = c ∙ ap literal_code (e ∙ sym (clause-at l.switches xs i l.right))
+  abbrev y : made.Number
+  y = get_or ys i (record { minus = false; size = 0 })
 
--- the words of the wish
-pub codes-are : {x y z : ℕ} (w : Clause) → x ≡ literal_at 0 w → y ≡ literal_at 1 w → z ≡ literal_at 2 w → x ∷ y ∷ z ∷ [] ≡ wish_words w
-codes-are w e f g = rw (e, f, g)
+  field_is : at xs i ≡ number_from y
+  field_is = get_or-take most_literals (numbers_from ys) i (plus 0) h ∙ get_or-map number_from ys i (record { minus = false; size = 0 })
+
+  pub code_fits : y.size ≤ 99
+  code_fits = omega (arith, literals-small l.switches xs i l.right, l.few, ap (λ z. z.size) field_is)
+
+  pub code_is : (r : ℕ) → r ≡ literal_code (number_from y) → r ≡ literal_at i (clause xs)
+  code_is r c = c ∙ ap literal_code (sym field_is ∙ sym (clause-at l.switches xs i l.right))
