@@ -72,8 +72,9 @@ pub fn best_plan(sheet: &Sheet, list: &[u32], last: Option<Candidate>) -> Option
     requires { Fails (task sheet.now) list.now last }
     ensures { (best_of result ≡ rule.best (task sheet.now) list.now) × Priced (task sheet.now) result }
 {
+    let end = power(sheet.counts().switches);
     let mut best = None;
-    for i in 0..power(sheet.counts().switches) {
+    for i in 0..end {
         best = with_plan(sheet, list, last, best, Plan(i));
     }
     best

@@ -14,5 +14,5 @@ loop-i-preserved c =
 
 pub returns : goal.returns
 returns c =
-    let n : c.power-i-end.result ≡ plans c.args.sheet.now = c.power-i-end.ensures ∙ ap (λ k. 2 ^ k.switches) c.counts.ensures.counts in
+    let n : c.power-end.result ≡ plans c.args.sheet.now = c.power-end.ensures ∙ ap (λ k. 2 ^ k.switches) c.counts.ensures.counts in
     (picks_best (task c.args.sheet.now) c.args.list.now c.loop-i.i c.loop-i.best (omega arith) c.loop-i.invariant.0, c.loop-i.invariant.1)
