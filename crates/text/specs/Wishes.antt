@@ -1,64 +1,67 @@
 -- What the steps over wish lines give: in no promise of an exported call. Assumes nothing.
-use Rattle.std.specs.Prelude.{ℕ, suc, ◌+◌, ◌-◌, ◌≤◌, Bool, true, false, cond, not, ◌&&◌, List, [], ◌∷◌, ◌++◌, ◌≡◌, eqb, leb, ltb, length}
+use Rattle.std.specs.Prelude.{ℕ, ◌+◌, ◌≤◌, Bool, false, ◌&&◌, Result, Ok, Err, List, [], ◌∷◌, ◌++◌, ◌≡◌, eqb, leb, ltb, length}
 use Prim.Native.Char.{code}
-use Rattle.scope.specs.Sheet.{Number, Clause, most_wishes, most_literals}
+use Rattle.scope.specs.Sheet.{Clause, most_wishes, most_literals}
 use Rattle.scope.specs.Meaning.{all}
-use Rattle.scope.specs.Typed.{Formula, Typed, typed}
-use Rattle.scope.specs.Text.{bytes}
-use Rattle.scope.specs.Parsing.{State, word, digits, literal, wish_line, wish, ended}
-use Rattle.scope.specs.Words.{literal_code, literal_at}
-use Rattle.words.specs.Tests.{test_of}
+use Rattle.scope.specs.Typed.{Formula, Typed, typed, most_number}
+use Rattle.scope.specs.Parsing.{wish_line, wish, ended}
+use Rattle.scope.specs.Words.{wish_words}
+use Rattle.words.specs.Entries.{literal_of}
+use Rattle.words.specs.declared.literal.Literal.{Literal}
 use Rattle.scanner.specs.Look.{look}
-use Rattle.scanner.specs.Tokens.{Stuck, Came}
-use Rattle.formula.specs.declared.parsed.Points.{Points}
+use Rattle.scanner.specs.Tokens.{StuckAt, Came}
+use Rattle.scanner.specs.declared.token.Stuck.{Stuck}
+use Rattle.formula.specs.declared.points.Points.{Points}
 use Rattle.text.specs.declared.lines.Lines.{Lines}
 use Rattle.text.specs.declared.wish.Literals.{Literals}
-use Rattle.text.specs.Lines.{FirstOf, Told, LinesRead}
+use Rattle.text.specs.Lines.{FirstWith, Told, LinesRead}
 
 -- ---- literals
 
-abbrev pub no_literals : ℕ → Literals
-no_literals n = record { bad = true; at = n; count = 0; first = 0; second = 0; third = 0; known = false }
+-- one literal from `at` on, which ends before n
+pub record LiteralGood (s : List ℕ) (at : ℕ) (x : Literal) (n : ℕ) : Type 0 where
+  pub few : x.switch ≤ most_number
+  pub came : (v : Typed) (xs : Clause) → Came s (wish v xs) at (ended v (xs ++ literal_of x ∷ [])) n
+
+abbrev pub LiteralRead : List ℕ → (at : ℕ) → Result (Literal × ℕ) Stuck → Type 0
+LiteralRead s at (Ok p) = LiteralGood s at p.0 p.1
+LiteralRead s at (Err e) = (v : Typed) (xs : Clause) → StuckAt s (wish v xs) at e.0
 
 -- w holds the codes of these literals, on a sheet with a switches
 pub record Codes (a : ℕ) (w : Literals) (xs : Clause) : Type 0 where
   pub count : w.count ≡ length xs
-  pub first : w.first ≡ literal_at 0 xs
-  pub second : w.second ≡ literal_at 1 xs
-  pub third : w.third ≡ literal_at 2 xs
+  pub codes : w.codes ≡ wish_words xs
   pub known : w.known ≡ all xs (λ x. leb x.size a)
 
-pub record WithLiteral (w : Literals) (n code : ℕ) (known : Bool) (r : Literals) : Type 0 where
-  pub good : r.bad ≡ false
+-- and one more
+pub record WithLiteral (a : ℕ) (w : Literals) (x : Literal) (n : ℕ) (r : Literals) : Type 0 where
   pub at : r.at ≡ n
   pub count : r.count ≡ w.count + 1
-  pub literals : (a : ℕ) (xs : Clause) (x : Number) → Codes a w xs → code ≡ literal_code x → known ≡ leb x.size a → Codes a r (xs ++ x ∷ [])
-
--- where a literal begins, and where its name does
-abbrev pub one_literal : Typed → Clause → State
-one_literal v xs = wish v xs
-
-abbrev pub named : Bool → Typed → Clause → State
-named minus v xs = word (bytes "s") (digits (literal v xs minus))
+  pub literals : (xs : Clause) → Codes a w xs → Codes a r (xs ++ literal_of x ∷ [])
 
 -- one more literal is read from `at` on
-pub record LiteralRead (From : Typed → Clause → State) (s : List ℕ) (a at : ℕ) (w r : Literals) : Type 0 where
-  pub few : r.count ≤ most_literals
-  pub good : r.bad ≡ false → (x : Number) × ((xs : Clause) → Codes a w xs → Codes a r (xs ++ x ∷ [])) × ((v : Typed) (xs : Clause) → Came s (From v xs) at (ended v (xs ++ x ∷ [])) r.at)
-  pub bad : r.bad ≡ true → (v : Typed) (xs : Clause) → Stuck s (From v xs) at r.at
+pub record More (s : List ℕ) (a at : ℕ) (w r : Literals) : Type 0 where
+  pub literal : Literal
+  pub good : LiteralGood s at literal r.at
+  pub one : WithLiteral a w literal r.at r
+
+abbrev pub OneMore : List ℕ → (a at : ℕ) → Literals → Result Literals Stuck → Type 0
+OneMore s a at w (Ok r) = More s a at w r
+OneMore s a at w (Err e) = (v : Typed) (xs : Clause) → StuckAt s (wish v xs) at e.0
 
 unfoldable pub more_literals : List ℕ → Literals → Bool
-more_literals s w = not w.bad && (ltb w.count most_literals && eqb (look s w.at) (code " "))
-
--- it falls with each literal
-unfoldable pub literals_left : List ℕ → Literals → ℕ
-literals_left s w = cond w.bad 0 (suc (length s - w.at))
+more_literals s w = ltb w.count most_literals && eqb (look s w.at) (code " ")
 
 -- the literals of a wish from `at` on
-pub record LiteralsRead (s : List ℕ) (a at : ℕ) (w : Literals) : Type 0 where
+pub record LiteralsGood (s : List ℕ) (a at : ℕ) (w : Literals) : Type 0 where
   pub few : w.count ≤ most_literals
-  pub good : w.bad ≡ false → (xs : Clause) × Codes a w xs × ((v : Typed) → Came s (wish v []) at (ended v xs) w.at)
-  pub bad : w.bad ≡ true → (v : Typed) → Stuck s (wish v []) at w.at
+  pub clause : Clause
+  pub codes : Codes a w clause
+  pub came : (v : Typed) → Came s (wish v []) at (ended v clause) w.at
+
+abbrev pub LiteralsRead : List ℕ → (a at : ℕ) → Result Literals Stuck → Type 0
+LiteralsRead s a at (Ok w) = LiteralsGood s a at w × (more_literals s w ≡ false)
+LiteralsRead s a at (Err e) = (v : Typed) → StuckAt s (wish v []) at e.0
 
 -- ---- wishes
 
@@ -67,17 +70,12 @@ pub record WishesTold (s : List ℕ) (c : Points) (l : Lines) (u : List ℕ) : T
   pub wishes : List Clause
   pub told : Told wish_line s (typed c.switches c.faults rules wishes) l u
 
-abbrev pub WishesRead : (s : List ℕ) (c : Points) (l : Lines) (u : List ℕ) → Type 0
-WishesRead s c l u = LinesRead (WishesTold s c l u) s l
-
--- the number of a wish's first fault
-abbrev pub wish_fault : ℕ → Bool → ℕ
-wish_fault n known = test_of 5 (ltb n most_wishes) (test_of 6 known 0)
+abbrev pub WishesRead : (s : List ℕ) (c : Points) → Result Lines Stuck → (u : List ℕ) → Type 0
+WishesRead s c r u = LinesRead (λ l. WishesTold s c l u) s r
 
 pub record WithWish (l : Lines) (w : Literals) (r : Lines) : Type 0 where
-  pub good : r.bad ≡ false
   pub at : r.at ≡ w.at + 1
   pub gates : r.gates ≡ l.gates
   pub rules : r.rules ≡ l.rules
   pub wishes : r.wishes ≡ l.wishes + 1
-  pub fault : FirstOf l.fault (wish_fault l.wishes w.known) (l.rules + l.wishes + 3) r.fault
+  pub fault : FirstWith l.fault (ltb l.wishes most_wishes) w.known (l.rules + l.wishes + 3) r.fault

@@ -1,6 +1,6 @@
-// The reader of typed texts. `read` fills the lent words with the sheet that a text stands for, or returns the number and place of the
-// first cause to turn it down; its promise, for every input, is what the scope's `TextRead` says of the bytes. The crate rests on
-// `scope`, on `words` for the sheet, and on `formula` for the bytes, words, numbers and formulas of a text.
+// The reader of typed texts. `read` makes the sheet that a text stands for, or tells the first cause to turn it down and its place; its
+// promise, for every input, is what the scope's `TextRead` says of the bytes. The crate rests on `scope`, on `words` for the sheet, on
+// `scanner` for the bytes, words and numbers of a text, and on `formula` for its formulas.
 #![tactic(auto)]
 
 mod head;

@@ -1,61 +1,53 @@
 // What the lines so far say.
-ghost use Rattle.std.specs.Prelude.{◌≡◌};
-ghost use Rattle.text.specs.Lines.{goes_on_with, stuck_at, FirstOf};
+ghost use Rattle.std.specs.Prelude.{◌+◌, ◌≤◌};
+ghost use Rattle.scope.specs.Typed.{most_text};
+ghost use Rattle.words.specs.Refusals.{Tested};
+ghost use Rattle.text.specs.Lines.{FirstOf, room_tests, FirstWith};
 
-use scanner::reader::look;
+use words::refusal::{Refusal, require};
 
 // the two lines before the first rule
-pub const HEAD_LINES: usize = 2;
+const HEAD_LINES: usize = 2;
 
-// The number of the first fault, or 0, and its line.
+// The first fault, and its line.
 #[derive(Clone, Copy)]
 pub struct Fault {
-    pub number: u32,
+    pub refusal: Refusal,
     pub line: usize,
 }
 
-// The place after them, how many gates, rules and wishes they have, and the first fault; or, if they are bad, the place where no legal
-// text goes on.
+// The place after them, how many gates, rules and wishes they have, and the first fault.
 #[derive(Clone, Copy)]
 pub struct Lines {
-    pub bad: bool,
     pub at: usize,
     pub gates: u32,
     pub rules: u32,
     pub wishes: u32,
-    pub fault: Fault,
+    pub fault: Option<Fault>,
 }
 
-pub fn stuck(at: usize) -> Lines
-    ensures { result ≡ stuck_at at }
+// With one more line, whose own tests came out so.
+pub fn first_of(f: Option<Fault>, tested: Result<(), Refusal>, line: usize) -> Option<Fault>
+    ensures { FirstOf f tested line result }
 {
-    Lines {
-        bad: true,
-        at,
-        gates: 0,
-        rules: 0,
-        wishes: 0,
-        fault: Fault { number: 0, line: 0 },
-    }
+    f.or(tested.err().map(|refusal| Fault { refusal, line }))
 }
 
-// With one more line, whose own first fault has this number, or 0.
-pub fn first_of(f: Fault, number: u32, line: usize) -> Fault
-    ensures { FirstOf f number line result }
+// The tests of a rule or a wish.
+fn tests(room: bool, known: bool) -> Result<(), Refusal>
+    ensures { Tested (room_tests room known) result }
 {
-    if f.number != 0 {
-        return f;
-    }
-    Fault { number, line }
+    require(room, Refusal::Limit)?;
+    require(known, Refusal::Fields)
 }
 
-// Whether a line with this first letter comes next.
-pub fn goes_on(s: &[u8], l: Lines, letter: u32) -> bool
-    ensures { result ≡ goes_on_with s.now l letter }
-{
-    if l.bad {
-        return false;
+impl Lines {
+    // The first fault, also of one more rule or wish: whether there was room for it, and whether its numbers are on the sheet.
+    pub fn fault_with(self, room: bool, known: bool) -> Option<Fault>
+        requires { self.rules + self.wishes ≤ most_text }
+        ensures { FirstWith self.fault room known (self.rules + self.wishes + 3) result }
+    {
+        let line = self.rules as usize + self.wishes as usize + HEAD_LINES + 1;
+        first_of(self.fault, tests(room, known), line)
     }
-    let at = l.at;
-    look(s, at) == letter
 }

@@ -1,41 +1,43 @@
 -- What the steps over the head and the rule lines give is put together. Assumes nothing.
-use Prim.Native.Nat.{ℕ, suc, ◌+◌, ◌-◌, ◌≤◌, ◌<◌}
+use Prim.Native.Nat.{ℕ, suc, ◌+◌, ◌<◌}
 use Prim.Native.Char.{code}
 use native.Mathlib.Omega.{arith}
-use Rattle.std.specs.Prelude.{Bool, cond, not, ◌&&◌, ◌≢◌, ◌≡◌}
+use Rattle.std.specs.Prelude.{Bool, Option, None, Some, Result, Ok, Err, cond, ◌&&◌, ◌≢◌, ◌≡◌}
 use Rattle.std.proofs.Math.Bool.{true, false}
 use mathlib.Core.List.{List, [], ◌∷◌, ◌++◌, append_assoc, append-nil}
 use Rattle.std.proofs.Math.Path.{refl, sym, ap, ap₂}
 use Rattle.std.proofs.Common.{subst, ◌∙◌}
 use Rattle.std.proofs.Math.Dec.{eqb, leb, ltb}
 use Rattle.std.proofs.Math.ListN.{length, length-append}
-use borrow.Author.Tests.{eqb-true, eqb-false, eq-eqb}
+use borrow.Author.Tests.{eqb-true, eqb-false}
+use Rattle.std.specs.Option.{option_or, option_map}
+use Rattle.std.specs.Result.{result_err}
 use Rattle.scope.specs.Sheet.{Sheet, sheet, Clause, All, most_switches, most_faults, most_gates, most_rules}
 use Rattle.scope.specs.Causes.{Test, Met, First}
+use Rattle.scope.specs.Causes as causes
 use Rattle.scope.specs.Text.{bytes}
 use Rattle.scope.specs.Typed.{Formula, Typed, typed, ors, most_nested, operators, point, gates_of, all_gates, all_points, known, rule_tests, wish_tests, line_tests, sheet_of}
 use Rattle.scope.specs.Texts.{FirstLine, here, later}
-use Rattle.scope.specs.Parsing.{line, first, head, nested, State, word, digits, switches, faults, rule_line, operand, after, add_rule, start, number_done, move, step}
-use Rattle.scope.proofs.Laws.Tests.{clash}
+use Rattle.scope.specs.Parsing.{line, first, head, nested, Slot, zero_ok, State, word, digits, switches, faults, rule_line, operand, after, add_rule, start, number_done, move, step}
 use Rattle.scope.proofs.Laws.Alls.{all_append}
 use Rattle.scope.proofs.Laws.Lists.{length_snoc}
 use Rattle.scope.proofs.Laws.TypedSheets.{length_gates}
 use Rattle.words.specs.Entries.{RulePut}
-use Rattle.words.specs.Tests.{test_of}
-use Rattle.words.specs.Tests as words
+use Rattle.words.specs.Refusals.{number_of, Tested}
+use Rattle.words.specs.declared.refusal.Refusal.{Refusal}
+use Rattle.words.specs.declared.refusal.Refusal.TheVariants.{Range}
 use Rattle.scanner.specs.Look.{look, skip}
-use Rattle.scanner.specs.Tokens.{Stuck, Came, WordRead, NamedRead}
-use Rattle.formula.specs.Formulas.{LevelRead, OrsCome, Asked, Ends, and_sign, or_sign, bad_at, moved, fed_of}
+use Rattle.scanner.specs.Tokens.{StuckAt, Came, SlotGood}
+use Rattle.formula.specs.Formulas.{Good, LevelStuck, OrsCome, Asked, and_sign, or_sign, sign_at, moved, ended_of, fed_of}
 use Rattle.scanner.specs.Laws.Walks.{stands, came_came, came_stuck, alike_within}
 use Rattle.formula.specs.Laws.Signs.{feed_walk, feed_stuck}
 use Rattle.formula.specs.declared.parsed.Parsed.{Parsed}
-use Rattle.formula.specs.declared.parsed.Points.{Points}
+use Rattle.formula.specs.declared.points.Points.{Points}
+use Rattle.scanner.specs.declared.token.Stuck.{Stuck}
 use Rattle.scanner.specs.declared.token.Token.{Token}
-use Rattle.text.specs.Lines.{Faulted, FirstOf, HeadRead, stuck_at, rule_letter, goes_on_with, NoMore, lines_left, LinesRead, RulesTold, RulesRead, rule_fault, WithRule}
-use Rattle.text.specs.declared.head.Head.{Head}
+use Rattle.text.specs.Lines.{Faulted, FirstOf, room_tests, rule_letter, RulesTold, WithRule}
 use Rattle.text.specs.declared.lines.Fault.{Fault}
 use Rattle.text.specs.declared.lines.Lines.{Lines}
-use Rattle.words.specs.Laws.Tests.{test, none_left}
 
 -- ---- the first fault
 
@@ -47,55 +49,59 @@ fault_after : {c : ℕ} (rss : List (List Test)) (rs : List Test) → All Met rs
 fault_after [] rs m f = here f
 fault_after {c} (qs ∷ rss) rs (m, ms) f = subst (λ k. FirstLine c k (qs ∷ rss ++ rs ∷ [])) (omega arith) (later m (fault_after rss rs ms f))
 
-module _ (rss : List (List Test)) (rs : List Test) (f : Fault) (h : Faulted rss f) where
-  -- an earlier line has a fault
-  pub faulted_before : f.number ≢ 0 → Faulted (rss ++ rs ∷ []) f
-  faulted_before n = record { met = λ e. absurd (n e); first = λ e. fault_before (rs ∷ []) (h.first n) }
+abbrev pub fault : Refusal → ℕ → Fault
+fault e n = record { refusal = e; line = n }
 
-  pub faulted_here : f.number ≡ 0 → (number k : ℕ) → words.Fault rs number → k ≡ length rss + 1 → Faulted (rss ++ rs ∷ []) record { number = number; line = k }
-  faulted_here z number k g e = record {
-    met = λ n. all_append Met rss (rs ∷ []) (h.met z) (g.met n, tt);
-    first = λ n. rw e (fault_after rss rs (h.met z) (g.first n));
-  }
+-- that of an earlier line, and after none the line's own
+pub first_fault : (f : Option Fault) (r : Result (Unit {0}) Refusal) (n : ℕ) → FirstOf f r n (option_or f (option_map (λ (e : Refusal). fault e n) (result_err r)))
+first_fault (Some f) r n = λ rss rs h g e. fault_before (rs ∷ []) h
+first_fault None (Ok u) n = λ rss rs h g e. all_append Met rss (rs ∷ []) h (g, tt)
+first_fault None (Err r) n = λ rss rs h g e. rw e (fault_after rss rs h g)
+
+-- ---- tests, one before the other
+
+-- what a test gives
+abbrev required : Bool → Refusal → Result (Unit {0}) Refusal
+required met r = cond met (Ok tt) (Err r)
+
+pub last_test : (n : ℕ) (met : Bool) (r : Refusal) → number_of r ≡ n → Tested ((n, met) ∷ []) (required met r)
+last_test n true r e = (refl, tt)
+last_test n false r e = rw e causes.here
+
+pub test_stops : (n : ℕ) (met : Bool) (ts : List Test) (r e : Refusal) → number_of r ≡ n → Err e ≡ required met r → First (number_of e) ((n, met) ∷ ts)
+test_stops n true ts r e d q = cc
+test_stops n false ts r e d q = let z : e ≡ r = cc in rw (z, d) causes.here
+
+pub test_met : (n : ℕ) (met : Bool) (ts : List Test) (r : Refusal) (u : Unit {0}) → Ok u ≡ required met r → (t : Result Unit Refusal) → Tested ts t → Tested ((n, met) ∷ ts) t
+test_met n true ts r u q (Ok v) h = (refl, h)
+test_met n true ts r u q (Err e) h = causes.later h
+test_met n false ts r u q t h = cc
 
 -- ---- the first two lines
 
-module _ {s : List ℕ} {a : Token} (ha : NamedRead s (bytes "switches ") true 0 a) where
-  pub switches_bad : {r : Head} → a.bad ≡ true → r ≡ record { bad = true; at = a.at; switches = 0; faults = 0 } → HeadRead s r
-  switches_bad b e = rw e record { good = λ t. clash refl t; bad = λ t. ha.bad b switches refl }
+module _ {s : List ℕ} where
+  pub switches_stuck : {n : ℕ} → ((slot : Slot) → zero_ok slot ≡ true → StuckAt s (word (bytes "switches ") (digits slot)) 0 n) → StuckAt s start 0 n
+  switches_stuck h = h switches refl
 
-  module _ (b : a.bad ≡ false) where
-    to_faults : Came s start 0 (word (bytes "\nfaults ") (digits (faults a.value))) a.at
+  module _ {a : Token} (ha : SlotGood (λ slot. word (bytes "switches ") (digits slot)) s true 0 a) where
+    pub to_faults : Came s start 0 (word (bytes "\nfaults ") (digits (faults a.value))) a.at
     unfolding number_done
-    to_faults = ha.good b switches refl
+    to_faults = ha.came switches refl
 
-    pub faults_within : a.at ≤ length s
-    faults_within = to_faults.within
+    pub faults_stuck : {n : ℕ} → ((slot : Slot) → zero_ok slot ≡ true → StuckAt s (word (bytes "\nfaults ") (digits slot)) a.at n) → StuckAt s start 0 n
+    faults_stuck h = came_stuck to_faults (h (faults a.value) refl)
 
-    module _ {f : Token} (hf : NamedRead s (bytes "\nfaults ") true a.at f) where
-      pub faults_bad : {r : Head} → f.bad ≡ true → r ≡ record { bad = true; at = f.at; switches = 0; faults = 0 } → HeadRead s r
-      faults_bad c e = rw e record { good = λ t. clash refl t; bad = λ t. came_stuck to_faults (hf.bad c (faults a.value) refl) }
-
-      pub feed_within : f.bad ≡ false → f.at ≤ length s
-      feed_within c = (hf.good c (faults a.value) refl).within
-
-      -- past both numbers the walk comes, or is stuck, as it does at the line feed after them
-      pub head_read : {e : Token} {r : Head} → f.bad ≡ false → WordRead s (bytes "\n") f.at e → r ≡ record { bad = e.bad; at = e.at; switches = a.value; faults = f.value } → HeadRead s r
-      unfolding number_done
-      head_read c h z =
-          let st : State = rule_line (typed a.value f.value [] []) in
-          let k : Came s start 0 (word (bytes "\n") st) f.at = came_came to_faults (hf.good c (faults a.value) refl) in
-          rw z record {
-            good = λ t. record { came = came_came k (h.good t st); switches = ha.few; faults = hf.few };
-            bad = λ t. came_stuck k (h.bad t st);
-          }
+    -- past both numbers a line feed is looked for
+    pub to_feed : {f : Token} → SlotGood (λ slot. word (bytes "\nfaults ") (digits slot)) s true a.at f → Came s start 0 (word (bytes "\n") (rule_line (typed a.value f.value [] []))) f.at
+    unfolding number_done
+    to_feed hf = came_came to_faults (hf.came (faults a.value) refl)
 
 -- as lines: no fault stands before them
-pub head_fault : (a f : ℕ) (none one two : Fault) (m n : ℕ) → none.number ≡ 0 → FirstOf none m 1 one → FirstOf one n 2 two → m ≡ test_of 4 (leb a most_switches) 0 → n ≡ test_of 4 (leb f most_faults) 0 → Faulted (line_tests (typed a f [] [])) two
+pub head_fault : (a f : ℕ) (one two : Option Fault) → FirstOf None (required (leb a most_switches) Range) 1 one → FirstOf one (required (leb f most_faults) Range) 2 two → Faulted (line_tests (typed a f [] [])) two
 unfolding line_tests rule_tests wish_tests
-head_fault a f none one two m n z g h e d =
-    let k : Faulted (((4, leb a most_switches) ∷ []) ∷ []) one = g [] ((4, leb a most_switches) ∷ []) record { met = λ t. tt; first = λ t. absurd (t z) } (test 4 e refl (omega arith) none_left) refl in
-    h (((4, leb a most_switches) ∷ []) ∷ []) ((4, leb f most_faults) ∷ []) k (test 4 d refl (omega arith) none_left) refl
+head_fault a f one two g h =
+    let k = g [] ((4, leb a most_switches) ∷ []) tt (last_test 4 (leb a most_switches) Range refl) refl in
+    h (((4, leb a most_switches) ∷ []) ∷ []) ((4, leb f most_faults) ∷ []) k (last_test 4 (leb f most_faults) Range refl) refl
 
 -- ---- one more rule in the sheet: m gates and j rules stand before it
 
@@ -147,35 +153,6 @@ module _ (a f : ℕ) where
   unfolding line_tests
   line_count_lem ys ws = omega (arith, length-append (rule_tests a f 0 0 ys) (wish_tests a f 0 ws), rule_count 0 0 ys, wish_count 0 ws)
 
--- ---- from line to line
-
-module _ (s : List ℕ) (l : Lines) (b : ℕ) where
-  -- the two tests, one by one
-  pub goes_on_is : goes_on_with s l b ≡ true → (l.bad ≡ false) × (look s l.at ≡ b)
-  unfolding goes_on_with
-  goes_on_is e = go l.bad refl e
-    where
-      go : (t : Bool) → l.bad ≡ t → (not t && eqb (look s l.at) b) ≡ true → (l.bad ≡ false) × (look s l.at ≡ b)
-      go true f e = clash e refl
-      go false f e = (f, eqb-true (look s l.at) b e)
-
-  pub no_more : goes_on_with s l b ≡ false → NoMore s l b
-  unfolding goes_on_with
-  no_more e f g = clash (rw (f, eq-eqb (look s l.at) b g)) e
-
--- less is left after one more line
-pub lines_less : (s : List ℕ) (l r : Lines) → l.bad ≡ false → l.at ≤ length s → (r.bad ≡ false → (l.at < r.at) × (r.at ≤ length s)) → lines_left s r < lines_left s l
-unfolding lines_left
-lines_less s l r e w h = rw e (go r.bad refl)
-  where
-    go : (t : Bool) → r.bad ≡ t → cond t 0 (suc (length s - r.at)) < suc (length s - l.at)
-    go true f = omega arith
-    go false f = let (a, b) = h f in omega arith
-
--- a line on which no legal text goes on
-pub line_stuck : {P : Type 0} {s : List ℕ} {r : Lines} {m n : ℕ} → r ≡ stuck_at n → Stuck s start 0 n → LinesRead P s r × (r.bad ≡ false → m < r.at)
-line_stuck e h = rw e (record { good = λ t. clash refl t; bad = λ t. h }, λ t. clash refl t)
-
 -- ---- a rule line
 
 -- where a rule's line begins, its word is looked for
@@ -187,112 +164,91 @@ rule_begins {s} {v} {at} e c = record {
   walk = c.walk ∙ alike_within s (rule_line v) (word (bytes "rule ") (operand (head (first (line v))))) at (stands s at (omega arith)) (rw e);
 }
 
-module _ {s : List ℕ} {c : Points} {l : Lines} {u : List ℕ} (h : RulesTold s c l u) (begins : look s l.at ≡ rule_letter) {w : Token} (hw : WordRead s (bytes "rule ") l.at w) where
+module _ {s : List ℕ} {c : Points} {l : Lines} {u : List ℕ} (h : RulesTold s c l u) where
   abbrev told : Typed
   told = typed c.switches c.faults h.rules []
 
   abbrev formula : State
   formula = operand (head (first (line told)))
 
-  pub rule_word_bad : {r : Lines} {v : List ℕ} → w.bad ≡ true → r ≡ stuck_at w.at → RulesRead s c r v × (r.bad ≡ false → l.at < r.at)
-  rule_word_bad b e = line_stuck e (came_stuck (rule_begins begins h.told.came) (hw.bad b formula))
+  pub to_word : look s l.at ≡ rule_letter → Came s start 0 (word (bytes "rule ") formula) l.at
+  to_word begins = rule_begins begins h.told.came
 
-  module _ (b : w.bad ≡ false) where
-    to_formula : Came s start 0 formula w.at
-    to_formula = came_came (rule_begins begins h.told.came) (hw.good b formula)
+  module _ (begins : look s l.at ≡ rule_letter) {at : ℕ} (w : (st : State) → Came s (word (bytes "rule ") st) l.at st at) where
+    to_formula : Came s start 0 formula at
+    to_formula = came_came (to_word begins) (w formula)
 
     -- the gates are at most as many as the bytes before the line, so no more than those before the formula
-    pub rule_asked : Asked s c l.gates w.at
-    rule_asked =
-        let n : l.at < w.at = (hw.good b formula).ahead in
-        record {
-          within = to_formula.within;
-          short = h.told.short;
-          few = omega (arith, h.told.few);
-          switches = h.told.switches;
-          faults = h.told.faults;
-        }
+    pub rule_asked : Asked s l.gates at
+    rule_asked = let n : l.at < at = (w formula).ahead in record { within = to_formula.within; short = h.told.short; few = omega (arith, h.told.few) }
 
-    module _ {p q : Parsed} {v : List ℕ} (hp : LevelRead ors s most_nested c l.gates w.at p u v) (no-and : Ends s p and_sign) (no_or : Ends s p or_sign) (hq : q ≡ fed_of s p) where
+    pub rule_stuck : {n : ℕ} → LevelStuck ors s most_nested at n → StuckAt s start 0 n
+    unfolding nested
+    rule_stuck k = came_stuck to_formula (k (line told) refl)
+
+    module _ {p : Parsed} {v : List ℕ} (hp : Good ors s most_nested c l.gates at p u v) (no-and : sign_at s p.at ≢ and_sign) (no_or : sign_at s p.at ≢ or_sign) where
       -- the formula, and what it is a part of where it ends
-      read : (g : p.bad ≡ false) → OrsCome s (line told) w.at (hp.good g).formula p.at
+      read : OrsCome s (line told) at hp.formula p.at
       unfolding nested
-      read g = (hp.good g).came (line told) refl
+      read = hp.came (line told) refl
 
-      to_end : (g : p.bad ≡ false) → Came s start 0 (after (read g).inner (read g).last) p.at
-      to_end g = came_came to_formula (read g).came
+      to_end : Came s start 0 (after read.inner read.last) p.at
+      to_end = came_came to_formula read.came
 
-      -- what the line feed after it says
-      data Fed : Type 0 where
-        no : q.bad ≡ true → Stuck s start 0 q.at → Fed
-        yes : p.bad ≡ false → look s p.at ≡ code "\n" → q ≡ moved p (p.at + 1) → Fed
+      abbrev last : Stuck
+      last = record { 0 = skip s p.at }
 
-      fed : Fed
-      unfolding fed_of nested
-      fed = go p.bad refl
+      pub fed_stuck : {e : Stuck} → Err e ≡ fed_of s p → StuckAt s start 0 e.0
+      unfolding ended_of nested
+      fed_stuck {e} = go (eqb (look s p.at) (code "\n")) refl
         where
-          end : (g : p.bad ≡ false) → (t : Bool) → eqb (look s p.at) (code "\n") ≡ t → Fed
-          end g true e = yes g (eqb-true (look s p.at) (code "\n") e) (hq ∙ rw (g, e) refl)
-          end g false e =
-              let z : q ≡ bad_at (skip s p.at) = hq ∙ rw (g, e) refl in
-              no (rw z refl) (rw z (came_stuck (to_end g) (feed_stuck s (read g).inner (read g).last p.at told (read g).around hp.within (eqb-false (look s p.at) (code "\n") e) (no-and g) (no_or g))))
+          go : (t : Bool) → eqb (look s p.at) (code "\n") ≡ t → Err e ≡ cond t (Ok (moved p (p.at + 1))) (Err last) → StuckAt s start 0 e.0
+          go true f q = cc
+          go false f q =
+              let z : e ≡ last = cc in
+              rw z (came_stuck to_end (feed_stuck s read.inner read.last p.at told read.around hp.within (eqb-false (look s p.at) (code "\n") f) no-and no_or))
 
-          go : (t : Bool) → p.bad ≡ t → Fed
-          go true g =
-              let z : q ≡ p = hq ∙ rw g refl in
-              no (rw z g) (rw z (came_stuck to_formula (hp.bad g (line told) refl)))
-          go false g = end g (eqb (look s p.at) (code "\n")) refl
-
-      -- a bad line is stuck where its formula or its line feed is
-      pub rule_bad : {r : Lines} → q.bad ≡ true → r ≡ stuck_at q.at → RulesRead s c r v × (r.bad ≡ false → l.at < r.at)
-      rule_bad {r} t e = go fed
+      fed_good : {q : Parsed} → Ok q ≡ fed_of s p → (look s p.at ≡ code "\n") × (q ≡ moved p (p.at + 1))
+      unfolding ended_of
+      fed_good {q} = go (eqb (look s p.at) (code "\n")) refl
         where
-          go : Fed → RulesRead s c r v × (r.bad ≡ false → l.at < r.at)
-          go (no u k) = line_stuck e k
-          go (yes g e z) = clash t (rw z g)
+          go : (t : Bool) → eqb (look s p.at) (code "\n") ≡ t → Ok q ≡ cond t (Ok (moved p (p.at + 1))) (Err last) → (look s p.at ≡ code "\n") × (q ≡ moved p (p.at + 1))
+          go true f q = (eqb-true (look s p.at) (code "\n") f, cc)
+          go false f q = cc
 
       -- the formula is one more rule: its walk, its gates, its point and its fault come after those of the rules told so far
-      pub rule_good : {r : Lines} {z : List ℕ} → q.bad ≡ false → RulePut q.point v z → WithRule l q r → RulesRead s c r z × (r.bad ≡ false → l.at < r.at)
+      pub rule_good : {q : Parsed} {r : Lines} {z : List ℕ} → Ok q ≡ fed_of s p → RulePut q.point v z → WithRule l q r → RulesTold s c r z × (l.at < r.at)
       unfolding sheet_of
-      rule_good {r} {z} t put k = go fed
-        where
-          go : Fed → RulesRead s c r z × (r.bad ≡ false → l.at < r.at)
-          go (no u m) = clash u t
-          go (yes g e moved-is) =
-              let a : ℕ = c.switches in
-              let f : ℕ = c.faults in
-              let xs : List Formula = h.rules in
-              let x : Formula = (hp.good g).formula in
-              let gates_are : q.gates ≡ l.gates + operators x = ap (λ q. q.gates) moved-is ∙ (hp.good g).built.gates in
-              let known_is : q.known ≡ known a f x = ap (λ q. q.known) moved-is ∙ (hp.good g).built.known in
-              let point_is : q.point ≡ point a f l.gates x = ap (λ q. q.point) moved-is ∙ (hp.good g).built.point in
-              let at-is : r.at ≡ p.at + 1 = k.at ∙ ap (λ q. q.at) moved-is in
-              let stand : p.at < length s = stands s p.at (omega arith) in
-              let ahead : operators x + w.at < p.at = (hp.good g).built.ahead in
-              let word-ahead : l.at < w.at = (hw.good b formula).ahead in
-              let before : length (all_gates a f 0 xs) ≡ l.gates = sym h.told.gates in
-              let gates-more : all_gates a f 0 (xs ++ x ∷ []) ≡ all_gates a f 0 xs ++ gates_of a f l.gates x = gates_snoc a f x 0 xs l.gates (omega arith) in
-              let points-more : all_points a f 0 (xs ++ x ∷ []) ≡ all_points a f 0 xs ++ q.point ∷ [] = rw point_is (points_snoc a f x 0 xs l.gates (omega arith)) in
-              let mid : Sheet = sheet a f (all_gates a f 0 xs ++ gates_of a f l.gates x) (all_points a f 0 xs) [] in
-              let row-fault : words.Fault (rule_line_tests a f l.gates l.rules x) (rule_fault q.gates l.rules q.known) = test 5 refl (ap (λ n. leb n most_gates && ltb l.rules most_rules) gates_are) (omega arith) (test 6 refl known_is (omega arith) none_left) in (
-                record {
-                  good = λ t. record {
-                    rules = xs ++ x ∷ [];
-                    told = record {
-                      good = k.good;
-                      short = h.told.short;
-                      few = omega (arith, h.told.few, k.gates, k.rules, k.wishes);
-                      switches = h.told.switches;
-                      faults = h.told.faults;
-                      came = rw at-is (subst (λ y. Came s start 0 (rule_line (add_rule told y)) (p.at + 1)) (read g).whole (came_came (to_end g) (feed_walk s (read g).inner (read g).last p.at told (read g).around e)));
-                      gates = k.gates ∙ gates_are ∙ sym (ap length gates-more ∙ length-append (all_gates a f 0 xs) (gates_of a f l.gates x) ∙ ap₂ (λ m n. m + n) before (length_gates a f l.gates x));
-                      rules = omega (arith, k.rules, h.told.rules, length_snoc xs x);
-                      wishes = k.wishes ∙ h.told.wishes;
-                      kept = rw (gates-more, points-more) (put mid ((hp.good g).filled (sheet_of told) h.told.kept));
-                      fault = rw (lines_snoc a f x xs l.gates l.rules before (sym h.told.rules)) (k.fault (line_tests (typed a f xs [])) (rule_line_tests a f l.gates l.rules x) h.told.fault row-fault (omega (arith, h.told.rules, line_count_lem a f xs [])));
-                    };
-                  };
-                  bad = λ t. clash t k.good;
-                },
-                λ t. omega arith,
-              )
+      rule_good {q} {r} {z} fed put k =
+          let (e, moved-is) = fed_good fed in
+          let a : ℕ = c.switches in
+          let f : ℕ = c.faults in
+          let xs : List Formula = h.rules in
+          let x : Formula = hp.formula in
+          let gates_are : q.gates ≡ l.gates + operators x = ap (λ q. q.gates) moved-is ∙ hp.built.gates in
+          let known_is : q.known ≡ known a f x = ap (λ q. q.known) moved-is ∙ hp.built.known in
+          let point_is : q.point ≡ point a f l.gates x = ap (λ q. q.point) moved-is ∙ hp.built.point in
+          let at-is : r.at ≡ p.at + 1 = k.at ∙ ap (λ q. q.at) moved-is in
+          let stand : p.at < length s = stands s p.at (omega arith) in
+          let ahead : operators x + at < p.at = hp.built.ahead in
+          let word-ahead : l.at < at = (w formula).ahead in
+          let before : length (all_gates a f 0 xs) ≡ l.gates = sym h.told.gates in
+          let gates-more : all_gates a f 0 (xs ++ x ∷ []) ≡ all_gates a f 0 xs ++ gates_of a f l.gates x = gates_snoc a f x 0 xs l.gates (omega arith) in
+          let points-more : all_points a f 0 (xs ++ x ∷ []) ≡ all_points a f 0 xs ++ q.point ∷ [] = rw point_is (points_snoc a f x 0 xs l.gates (omega arith)) in
+          let mid : Sheet = sheet a f (all_gates a f 0 xs ++ gates_of a f l.gates x) (all_points a f 0 xs) [] in
+          let row-is : room_tests (leb q.gates most_gates && ltb l.rules most_rules) q.known ≡ rule_line_tests a f l.gates l.rules x = rw (gates_are, known_is) in (
+            record {
+              rules = xs ++ x ∷ [];
+              told = record {
+                short = h.told.short;
+                few = omega (arith, h.told.few, k.gates, k.rules, k.wishes);
+                came = rw at-is (subst (λ y. Came s start 0 (rule_line (add_rule told y)) (p.at + 1)) read.whole (came_came to_end (feed_walk s read.inner read.last p.at told read.around e)));
+                gates = k.gates ∙ gates_are ∙ sym (ap length gates-more ∙ length-append (all_gates a f 0 xs) (gates_of a f l.gates x) ∙ ap₂ (λ m n. m + n) before (length_gates a f l.gates x));
+                rules = omega (arith, k.rules, h.told.rules, length_snoc xs x);
+                wishes = k.wishes ∙ h.told.wishes;
+                kept = rw (gates-more, points-more) (put mid (hp.filled (sheet_of told) h.told.kept));
+                fault = rw (lines_snoc a f x xs l.gates l.rules before (sym h.told.rules), ← row-is) (k.fault (line_tests (typed a f xs [])) h.told.fault (omega (arith, h.told.rules, h.told.wishes, line_count_lem a f xs [])));
+              };
+            },
+            omega arith,
+          )

@@ -5,10 +5,9 @@ use Rattle.text.proofs.head.head_lines.Goals as goal
 
 pub returns : goal.returns
 returns c = record {
-  good = refl;
   at = refl;
   gates = refl;
   rules = refl;
   wishes = refl;
-  fault = head_fault _ _ _ _ _ _ _ refl c.first_of-first.ensures c.first_of.ensures c.test.ensures c.test-2.ensures;
+  fault = head_fault _ _ _ _ (rw c.require.ensures at c.first_of-first.ensures) (rw c.require-2.ensures at c.first_of-fault.ensures);
 }

@@ -1,16 +1,19 @@
 -- A line that goes on is read from its first letter, and after the last one no more come.
-use Rattle.std.proofs.Common.{sym, ◌∙◌}
-use Rattle.text.specs.Laws.Lines.{goes_on_is, no_more, lines_less}
+use Rattle.std.proofs.Common.{sym, arith}
+use Rattle.std.proofs.lemmas.Result.{err_from_is_err_and}
+use borrow.Author.Tests.{eqb-true, eqb-false}
 use Rattle.text.proofs.rule.rule_lines.Goals as goal
 
-pub rule_line-l-requires : goal.rule_line-l-requires
-rule_line-l-requires c = let (g, e) = goes_on_is _ _ _ (sym c.goes_on.ensures ∙ c.loop-c-test.true) in (c.loop-c.invariant.good g, e)
+pub rule_line-requires : goal.rule_line-requires
+rule_line-requires c = (c.loop-c.invariant, eqb-true _ _ (sym c.loop-c-test.ensures))
+
+pub returns-in_err-l : goal.returns-in_err-l
+returns-in_err-l c =
+    let p = err_from_is_err_and c.from_residual.result c.from_residual.ensures.1 in
+    rw (p.1, p.2) (c.in_err-l.ensures.0, tt)
 
 pub loop-c-smaller : goal.loop-c-smaller
-loop-c-smaller c =
-    let (g, e) = goes_on_is _ _ _ (sym c.goes_on.ensures ∙ c.loop-c-test.true) in
-    let r = c.rule_line-l.ensures in
-    lines_less _ _ _ g (c.loop-c.invariant.good g).told.came.within (λ t. (r.1 t, (r.0.good t).told.came.within))
+loop-c-smaller c = omega (arith, c.in_ok-l.ensures.0.told.came.within, c.in_ok-l.ensures.1)
 
 pub returns : goal.returns
-returns c = (c.loop-c.invariant, no_more _ _ _ (sym c.goes_on.ensures ∙ c.loop-c-test.false))
+returns c = (c.loop-c.invariant, eqb-false _ _ (sym c.loop-c-test.ensures))
