@@ -1,26 +1,21 @@
 -- What a listing has, row by row. Assumes nothing.
-use Rattle.std.specs.Prelude.{ℕ, ◌+◌, ◌<◌, Bool, cond, List, [], ◌∷◌, ◌++◌, length}
-use Rattle.scope.specs.Sheet.{Sheet}
+use Rattle.std.specs.Prelude.{ℕ, ◌+◌, List, [], ◌∷◌, ◌++◌, length, Option, Some, None}
 use Rattle.scope.specs.Program.{Row, row, each, pattern_row, plan_rows, ended}
-use Rattle.listing.specs.declared.whole.Shown.{Shown}
-use Rattle.listing.specs.Rows.{field_end}
+use Rattle.listing.specs.declared.shown.Head.{Head}
+use Rattle.listing.specs.declared.shown.Found.{Found}
 
 -- the switches and wishes, if a plan was found, and how many rows they take
-abbrev pub plan_rows_of : (found : Bool) → Sheet → (plan : ℕ) → List Row
-plan_rows_of found t plan = cond found (plan_rows t plan) []
+abbrev pub plan_rows_of : Option Found → List Row
+plan_rows_of None = []
+plan_rows_of (Some f) = plan_rows f.sheet.now f.plan.0
 
-abbrev pub plan_count : (found : Bool) → Sheet → ℕ
-plan_count found t = cond found (t.switches + length t.wishes) 0
+abbrev pub plan_count : Option Found → ℕ
+plan_count None = 0
+plan_count (Some f) = f.sheet.now.switches + length f.sheet.now.wishes
 
 -- A, the plan's rows, the patterns and Z
-abbrev pub listing_rows : Shown → Sheet → List ℕ → List Row
-listing_rows s t list = ended (row "A" s.number s.place s.figure ∷ plan_rows_of s.found t s.plan.0 ++ each pattern_row 1 list)
+abbrev pub listing_rows : Head → Option Found → List ℕ → List Row
+listing_rows h f list = ended (row "A" h.number h.place h.figure ∷ plan_rows_of f ++ each pattern_row 1 list)
 
-abbrev pub row_count : (found : Bool) → Sheet → List ℕ → ℕ
-row_count found t list = 2 + plan_count found t + length list
-
--- the numbers of the A line fit their fields
-pub record Fitting (s : Shown) : Type 0 where
-  pub number : s.number < field_end
-  pub place : s.place < field_end
-  pub figure : s.figure < field_end
+abbrev pub row_count : Option Found → List ℕ → ℕ
+row_count f list = 2 + plan_count f + length list

@@ -1,9 +1,9 @@
 -- Rows put into a buffer, one after another. Assumes nothing.
-use Rattle.std.specs.Prelude.{ℕ, ◌+◌, ◌*◌, ◌<◌, List, ◌∷◌, ◌≡◌, length, get_or, take}
-use Rattle.scope.specs.Sheet.{fields_bytes}
+use Rattle.std.specs.Prelude.{ℕ, ◌*◌, ◌<◌, List, [], ◌∷◌, ◌≡◌, length, get_or, map}
+use Rattle.scope.specs.Sheet.{plus, fields_bytes}
 use Rattle.scope.specs.Causes.{line_size}
+use Rattle.scope.specs.Jobs.{over}
 use Rattle.scope.specs.Program.{output_fields, Row, rows_bytes, each}
-use Rattle.field.specs.Put.{put}
 
 abbrev pub row_size : ℕ
 row_size = line_size output_fields
@@ -18,12 +18,27 @@ field_end = 100000
 abbrev pub Small : List ℕ → Type 0
 Small l = (i : ℕ) → i < length l → get_or l i 0 < field_end
 
--- the rows rs put at `at`, and where they end
-pub record Wrote (out : List ℕ) (at : ℕ) (rs : List Row) (now : List ℕ) (end : ℕ) : Type 0 where
-  pub bytes : now ≡ put out at (rows_bytes rs)
+-- the rows rs put at the beginning, and where they end
+pub record Wrote (out : List ℕ) (rs : List Row) (now : List ℕ) (end : ℕ) : Type 0 where
+  pub bytes : now ≡ over (rows_bytes rs) out
   pub size : length (rows_bytes rs) ≡ row_size * length rs
-  pub end_is : end ≡ at + row_size * length rs
+  pub end_is : end ≡ row_size * length rs
 
--- a row for each of the first k elements of a list, numbered from 1, put at `at`
-abbrev pub Put : {A : Type 0} → (ℕ → A → Row) → (out : List ℕ) (at : ℕ) (l : List A) (k : ℕ) (now : List ℕ) → Type 0
-Put f out at l k now = Wrote out at (each f 1 (take k l)) now (at + row_size * k)
+-- ---- rows of a kind
+
+-- a row of numbers that are not below 0
+abbrev pub row_of : (letter : ℕ) → List ℕ → Row
+row_of letter xs = record { letter = letter; fields = map plus xs }
+
+-- figure x in place i
+abbrev pub figure_row : (letter i x : ℕ) → Row
+figure_row letter i x = row_of letter (i ∷ x ∷ 0 ∷ [])
+
+-- a row for each, numbered from 1
+abbrev pub figure_rows : (letter : ℕ) → List ℕ → List Row
+figure_rows letter = each (figure_row letter) 1
+
+-- n figures, each of which R may give for its place
+pub record Given (R : ℕ → ℕ → Type 0) (n : ℕ) (xs : List ℕ) : Type 0 where
+  pub count : length xs ≡ n
+  pub each_one : (i : ℕ) → i < n → R i (get_or xs i 0)

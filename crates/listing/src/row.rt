@@ -1,23 +1,20 @@
 // A row: a letter and three numbers, none of them below 0.
-ghost use Rattle.std.specs.Prelude.{[], ◌∷◌, ◌≡◌, ◌+◌, ◌≤◌, ◌<◌, length};
-ghost use Rattle.scope.specs.Sheet.{plus, fields_bytes};
-ghost use Rattle.field.specs.Put.{put};
-ghost use Rattle.listing.specs.Rows.{row_size, field_end};
+ghost use Rattle.std.specs.Prelude.{[], ◌∷◌, ◌≤◌, length};
+ghost use Rattle.listing.specs.Rows.{row_size, row_of, Small, Wrote};
 
-use field::{FIELD_SIZE, plain};
-use line::line::put_line;
+use field::{FIELD_SIZE, Number};
+use line::put_line;
 
 const ROW_FIELDS: usize = 3;
 
 // The bytes of a row: its letter, its numbers and a line feed.
 pub const ROW_SIZE: usize = 1 + ROW_FIELDS * FIELD_SIZE + 1;
 
-// Puts a row at `at`.
-pub fn put_row(out: &mut [u8], at: usize, letter: u8, x: u32, y: u32, z: u32)
-    requires { (x < field_end) × (y < field_end) × (z < field_end) × (at + row_size ≤ length out.old) }
-    ensures { out.new ≡ put out.old at (letter ∷ fields_bytes (plus x ∷ plus y ∷ plus z ∷ [])) }
+pub fn put_row(out: &mut [u8], letter: u8, numbers: [u32; ROW_FIELDS]) -> usize
+    requires room { row_size ≤ length out.old }
+    requires small { Small numbers }
+    ensures { Wrote out.old (row_of letter numbers ∷ []) out.new result }
 {
-    // a line has room for four; the fourth is not printed
-    let numbers = [plain(x), plain(y), plain(z), plain(0)];
-    put_line(out, at, letter, numbers, ROW_FIELDS);
+    put_line(&mut out[..ROW_SIZE], letter, &numbers.map(Number::from));
+    ROW_SIZE
 }

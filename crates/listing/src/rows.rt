@@ -1,64 +1,81 @@
 // The rows of the listing that come in numbers: switches, wishes, patterns.
-ghost use Rattle.std.specs.Prelude.{◌≡◌, ◌+◌, ◌*◌, ◌≤◌, length};
-ghost use Rattle.scope.specs.Sheet.{Sheet, most_switches, Valid};
-ghost use Rattle.scope.specs.Words.{held};
+ghost use Rattle.std.specs.Prelude.{[], List, ℕ, false, ◌≡◌, ◌*◌, ◌≤◌, ◌<◌, length, get_or};
+ghost use Rattle.scope.specs.Sheet.{Valid};
 ghost use Rattle.scope.specs.Meaning.{bits};
-ghost use Rattle.scope.specs.Program.{switch_row, wish_row, pattern_row, room};
-ghost use Rattle.listing.specs.Rows.{row_size, Put, Small};
+ghost use Rattle.scope.specs.Meaning as meaning;
+ghost use Rattle.scope.specs.Program.{each, switch_row, wish_row, pattern_row, room};
+ghost use Rattle.listing.specs.Rows.{row_size, field_end, figure_rows, Small, Given, Wrote};
 
-use crate::row::{ROW_SIZE, put_row};
+use crate::row::put_row;
 use circuit::point::switch_on;
 use circuit::wish::kept;
-use words::convert::{flag, narrow, wide};
-use words::counts::counts_of;
-use words::letter::WISH;
-use words::wish::wish_at;
-use words::{Plan, Words};
+use words::Plan;
+use words::sheet::Sheet;
 
 const SWITCH: u8 = b'S';
 
+const WISH: u8 = b'W';
+
 const PATTERN: u8 = b'F';
 
-// A row for each switch, on or off, from `at` on.
-pub fn put_switches(out: &mut [u8], at: usize, a: u32, plan: Plan)
-    requires { (a ≤ most_switches) × (at + row_size * a ≤ length out.old) }
-    ensures { Put switch_row out.old at (bits a plan.0) a out.new }
+// A row for each of n figures: its number, counted from 1, and what is given for its place, counted from 0.
+fn put_rows<F: Fn(usize) -> u32>(out: &mut [u8], letter: u8, n: usize, figure: F) -> usize
+    requires few { n < field_end }
+    requires room { row_size * n ≤ length out.old }
+    requires given { (i : ℕ) → i < n → F.pre figure i }
+    requires small { (i x : ℕ) → i < n → F.post figure i x → x < field_end }
+    ensures { (xs : List ℕ) × Given (F.post figure) n xs × Wrote out.old (figure_rows letter xs) out.new result }
 {
-    let mut i: u32 = 0;
-    while i < a {
-        let on = flag(switch_on(plan, a, i + 1));
-        put_row(out, at + ROW_SIZE * wide(i), SWITCH, i + 1, on, 0);
-        i += 1;
+    let mut end = 0;
+    for i in 0..n {
+        let number = i as u32 + 1;
+        end += put_row(&mut out[end..], letter, [number, figure(i), 0]);
     }
+    end
 }
 
-// A row for each wish, kept or broken, from `at` on.
-pub fn put_wishes(out: &mut [u8], at: usize, sheet: &Words, plan: Plan)
-    ghost t: { Sheet }
-    requires sheet_value { held sheet.now ≡ t }
-    requires valid { Valid t × (at + row_size * length t.wishes ≤ length out.old) }
-    ensures { Put (wish_row t plan.0) out.old at t.wishes (length t.wishes) out.new }
+// Whether switch i is on, counted from 0.
+fn is_on(sheet: &Sheet, plan: Plan, i: usize) -> bool
+    requires { i < sheet.now.switches }
+    ensures { result ≡ get_or (bits sheet.now.switches plan.0) i false }
 {
-    let counts = counts_of(sheet);
-    let end = wide(counts.wishes);
-    let mut i = 0;
-    while i < end {
-        let state = flag(kept(wish_at(sheet, i), counts.switches, plan));
-        let number = narrow(i + 1);
-        put_row(out, at + ROW_SIZE * i, WISH, number, state, 0);
-        i += 1;
-    }
+    switch_on(plan, sheet.counts().switches, i as u32 + 1)
 }
 
-// A row for each listed pattern, from `at` on.
-pub fn put_patterns(out: &mut [u8], at: usize, list: &[u32])
-    requires { (at + row_size * length list.now ≤ length out.old) × (length list.now ≤ room) × Small list.now }
-    ensures { Put pattern_row out.old at list.now (length list.now) out.new }
+// Whether wish i is kept, counted from 0.
+#[tactic(auto, unfolding(scope::specs::Meaning::kept, scope::specs::Meaning::switch_on))]
+fn is_kept(sheet: &Sheet, plan: Plan, i: usize) -> bool
+    requires { i < length sheet.now.wishes }
+    ensures { result ≡ meaning.kept sheet.now plan.0 (get_or sheet.now.wishes i []) }
 {
-    let mut i = 0;
-    while i < list.len() {
-        let number = narrow(i + 1);
-        put_row(out, at + ROW_SIZE * i, PATTERN, number, list[i], 0);
-        i += 1;
-    }
+    kept(sheet.wish(i), sheet.counts().switches, plan)
+}
+
+// A row for each switch, on or off.
+pub fn put_switches(out: &mut [u8], sheet: &Sheet, plan: Plan) -> usize
+    requires { row_size * sheet.now.switches ≤ length out.old }
+    ensures valid { Valid sheet.now }
+    ensures rows { Wrote out.old (each switch_row 1 (bits sheet.now.switches plan.0)) out.new result }
+{
+    let n = sheet.counts().switches as usize;
+    put_rows(out, SWITCH, n, |i| u32::from(is_on(sheet, plan, i)))
+}
+
+// A row for each wish, kept or broken.
+pub fn put_wishes(out: &mut [u8], sheet: &Sheet, plan: Plan) -> usize
+    requires { row_size * length sheet.now.wishes ≤ length out.old }
+    ensures { Wrote out.old (each (wish_row sheet.now plan.0) 1 sheet.now.wishes) out.new result }
+{
+    let n = sheet.counts().wishes as usize;
+    put_rows(out, WISH, n, |i| u32::from(is_kept(sheet, plan, i)))
+}
+
+// A row for each listed pattern.
+pub fn put_patterns(out: &mut [u8], list: &[u32]) -> usize
+    requires few { length list.now ≤ room }
+    requires small { Small list.now }
+    requires room { row_size * length list.now ≤ length out.old }
+    ensures { Wrote out.old (each pattern_row 1 list.now) out.new result }
+{
+    put_rows(out, PATTERN, list.len(), |i| list[i])
 }

@@ -1,16 +1,20 @@
--- `put_line` puts the numbers that the code holds: they are the row's (`row_numbers`), and they fit. That they fit says nothing of the
--- letter, so it is asked for a row with any.
-use Rattle.std.proofs.Common.{arith}
-use Rattle.scope.proofs.Laws.Outputs.{row_fits}
-use Rattle.listing.specs.Laws.Rows.{row_numbers}
+-- The row's bytes are those of a line of its numbers.
+use Rattle.std.proofs.Common.{ℕ, false, ◌≡◌, ◌<◌, ◌∷◌, map, get_or, arith, sym, ap, ◌∙◌, rules, length-take-le, ext_get_or}
+use Rattle.std.proofs.Math.ListN.{get_or-map}
+use Rattle.std.proofs.lemmas.List.{length-map}
+use Rattle.scope.specs.Sheet.{plus, fields_bytes}
+use Rattle.field.specs.Columns.{number_from}
+use Rattle.field.specs.declared.Number.{Number}
+use Rattle.line.specs.Lines.{numbers_from}
+use Rattle.listing.specs.Rows.{row_of}
+use Rattle.listing.specs.Laws.Rows.{wrote_row}
 use Rattle.listing.proofs.row.put_row.Goals as goal
-
-pub put_line-requires : goal.put_line-requires
-put_line-requires c =
-    let e = row_numbers c.args.x c.args.y c.args.z _ _ _ c.plain-4.result c.plain.ensures c.plain-2.ensures c.plain-3.ensures in
-    (omega arith, rw e (row_fits "A" c.args.x c.args.y c.args.z (omega (arith, c.requires.0)) (omega (arith, c.requires.1)) (omega (arith, c.requires.2))), omega arith)
 
 pub returns : goal.returns
 returns c =
-    let e = row_numbers c.args.x c.args.y c.args.z _ _ _ c.plain-4.result c.plain.ensures c.plain-2.ensures c.plain-3.ensures in
-    rw e at c.put_line.ensures
+    let xs = c.args.numbers in
+    let ys = c.map.result in
+    let o : Number = record { minus = false; size = 0 } in
+    let eaches : (i : ℕ) → i < 3 → number_from (get_or ys i o) ≡ plus (get_or xs i 0) = λ i h. let k = c.map.ensures.items.at i 0 o h in search rules in
+    let e : numbers_from ys ≡ map plus xs = ext_get_or (plus 0) (numbers_from ys) (map plus xs) (length-map ys number_from ∙ c.map.ensures.items.long ∙ sym (length-map xs plus ∙ search rules)) (λ i h. get_or-map number_from ys i o ∙ eaches i (omega (arith, length-map ys number_from, c.map.ensures.items.long)) ∙ sym (get_or-map plus xs i 0)) in
+    wrote_row c.args.out.now c.put_line.new.out (row_of c.args.letter c.args.numbers) (c.put_line.ensures ∙ ap (λ xs. c.args.letter ∷ fields_bytes xs) e) (c.put_line.auto.out ∙ length-take-le 17 c.args.out.now (omega arith))
