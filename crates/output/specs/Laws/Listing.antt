@@ -107,10 +107,8 @@ module _ (c : Cause) (s : List ℕ) (h : Source (told c s)) where
     unfolding output_rows
     rows_are = ap (λ rs. ended (row "A" o.number o.place (third (result_of o)) ∷ rs ++ each pattern_row 1 (take o.length l))) found_rows_lem ∙ ap (λ a. ended (answer_rows (told c s) a)) g
 
--- ---- it stands in a buffer that has room for the longest
+-- ---- it is no longer than its buffer
 
-pub listing_fits : (R : Read → Type 0) (after : List ℕ) (m : ℕ) → IsListing R (replicate most_output 0) (listing_result m after) → length after ≡ most_output → m ≤ length after
+pub listing_fits : (R : Read → Type 0) (out after : List ℕ) (m : ℕ) → IsListing R out (listing_result m after) → length after ≡ length out → m ≤ length after
 unfolding listing_of
-listing_fits R after m g n =
-    let w : m ≤ length {A = ℕ} (replicate most_output 0) = placed_within most_output (output g.read) (replicate most_output 0) (listing_result m after) g.given (n ∙ sym (length-replicate {A = ℕ} most_output 0)) in
-    rw n (rw length-replicate at w)
+listing_fits R out after m g n = rw n (placed_within most_output (output g.read) out (listing_result m after) g.given n)
