@@ -1,2 +1,2 @@
 -- to believe
-pub mod Programs
+pub mod Streams

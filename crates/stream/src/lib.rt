@@ -7,7 +7,7 @@
 
 ghost use Rattle.std.specs.Prelude.{IfOk, length};
 ghost use Rattle.std.specs.Io.{ReadsAtMost};
-ghost use Rattle.stream.specs.Programs.{IsInput, StaysWithin, Transformed};
+ghost use Rattle.stream.specs.Streams.{IsInput, StaysWithin, Transformed};
 
 use std::fmt::{self, Display, Formatter};
 use std::io::{self, Eprint, Input, Read, Write};

@@ -1,4 +1,4 @@
--- What a program makes of its input, where the bytes of input and output are known. Assumes nothing.
+-- What a program makes of its input, where the bytes of the input and of the output are known. Assumes nothing.
 use Rattle.std.specs.Prelude.{◌≡◌, ℕ, ◌≤◌, List, length, take, ⊤, Result, Ok, Err, Option, IfSome}
 use Rattle.std.specs.Io.KnownBytes.{Appends, Keeps}
 use Rattle.stream.specs.declared.Failure.{Failure}
@@ -9,11 +9,12 @@ use denote.Ref.{Bor, MutBor}
 abbrev pub IsInput : Option (List ℕ) → List ℕ → ℕ → Type 0
 IsInput known buffer n = IfSome known (λ s. take n buffer ≡ take (length buffer) s)
 
--- a function that prints, by what it may do: for some bytes, and a lent buffer, put so many bytes at the beginning of the buffer, which is then as the last says
+-- a function that prints for some bytes, into a lent buffer: how many bytes it may count there, and how it may leave the buffer
 module _ (prints : Bor (List ℕ) → MutBor (List ℕ) → ℕ → MutBor (List ℕ) → Type 0) where
   -- no more bytes than the buffer has
   abbrev pub StaysWithin : Type 0
-  StaysWithin = (s : Bor (List ℕ)) (lent : MutBor (List ℕ)) (m : ℕ) (left : MutBor (List ℕ)) → prints s lent m left → length left.now ≡ length lent.now → m ≤ length left.now
+  StaysWithin = (s : Bor (List ℕ)) (lent : MutBor (List ℕ)) (m : ℕ) (left : MutBor (List ℕ)) → prints s lent m left
+      → length left.now ≡ length lent.now → m ≤ length left.now
 
   -- for the bytes s and this buffer it may print the bytes p
   pub record Printed (s buffer p : List ℕ) : Type 0 where
