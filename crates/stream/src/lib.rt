@@ -1,63 +1,80 @@
-// Standard input read to its end, and standard output written whole, for the programs. What the operating system
-// reads and writes is not proved; what is proved is that the count told is within the buffer, and that each call ends.
+// What the programs share: the input read to its end, a function that prints for its bytes, and what was printed written
+// whole. Where the bytes of input and output are known, it is proved what is written. Of standard input and output no
+// contract can know them: that they are read and written is tested.
 //
-// Rests on the standard library, and on a definition of `io`, alone.
+// Rests on the standard library alone.
 #![tactic(auto)]
 
-ghost use Rattle.io.specs.Counts.{IsPrefixLen};
+ghost use Rattle.std.specs.Prelude.{IfOk, length};
+ghost use Rattle.std.specs.Io.{ReadsAtMost};
+ghost use Rattle.stream.specs.Streams.{IsInput, StaysWithin, Transformed};
 
-use std::io::{Eprint, Print, Read};
+use std::fmt::{self, Display, Formatter};
+use std::io::{self, Eprint, Input, Read, Write};
 
-// The bytes of the input, at the start of a buffer. It is whole if it was read to its end, or fills the buffer; an
-// input whose reading failed is none, however many bytes came before.
+// Why an input has no answer, or nobody got the whole of it.
 #[derive(Clone, Copy)]
-pub struct Input {
-    pub whole: bool,
-    pub len: usize,
+pub enum Failure {
+    Unread,
+    Unwritten,
 }
 
-// Fills the buffer from the input, as far as that goes.
-pub fn read_input<R: Read>(input: &mut R, buf: &mut [u8]) -> Input
-    ensures { IsPrefixLen result.len buf.new }
+impl Display for Failure {
+    fn fmt<W: fmt::Write>(&self, f: &mut Formatter<W>) -> fmt::Result {
+        match self {
+            Failure::Unread => write!(f, "planner: the input could not be read to its end"),
+            Failure::Unwritten => write!(f, "planner: the output could not be written"),
+        }
+    }
+}
+
+// Fills the buffer from the input, as far as that goes. An input whose reading failed is none, however many bytes came
+// before. The library's own loops of this kind fill a `Vec`, or tell of no count where the input ends early.
+pub fn read_input<R: Read>(input: &mut R, buf: &mut [u8]) -> io::Result<usize>
+    ensures bound { ReadsAtMost result buf.new }
+    ensures bytes { IfOk result (IsInput (R.remaining input.old) buf.new) }
 {
     let mut done = 0;
     while done < buf.len() {
-        let more = match input.read(&mut buf[done..]) {
-            Ok(more) => more,
-            Err(_) => {
-                return Input {
-                    whole: false,
-                    len: 0,
-                };
-            }
-        };
+        let more = input.read(&mut buf[done..])?;
         if more == 0 {
-            return Input {
-                whole: true,
-                len: done,
-            };
+            break;
         }
         done += more;
     }
-    Input {
-        whole: true,
-        len: done,
+    Ok(done)
+}
+
+// Reads the input into `bytes`, lets `print` put into `out` what it prints for that, and writes it to the output.
+pub fn transform<R: Read, W: Write, F: Fn(&[u8], &mut [u8]) -> usize>(
+    input: &mut R,
+    output: &mut W,
+    bytes: &mut [u8],
+    out: &mut [u8],
+    print: F,
+) -> Result<(), Failure>
+    requires may { F.IsAlwaysCallable print }
+    requires fits { StaysWithin (F.post print) }
+    ensures { Transformed (F.post print) (R.remaining input.old) (length bytes.old) out.old (W.contents output.old) (W.contents output.new) result }
+{
+    let n = read_input(input, bytes).map_err(|_| Failure::Unread)?;
+    let m = print(&bytes[..n], out);
+    output.write_all(&out[..m]).map_err(|_| Failure::Unwritten)
+}
+
+// A program: this from standard input to standard output. A line for people tells of a failure; that it cannot be written
+// is nothing that anybody could be told.
+pub fn run<F: Fn(&[u8], &mut [u8]) -> usize>(
+    rt: &HostRuntime,
+    bytes: &mut [u8],
+    out: &mut [u8],
+    print: F,
+)
+    requires may { F.IsAlwaysCallable print }
+    requires fits { StaysWithin (F.post print) }
+{
+    let done = transform(&mut rt.reader(), &mut io::writer(rt), bytes, out, print);
+    if let Err(failure) = done {
+        let _ = rt.eprintln(failure);
     }
-}
-
-// Writes all of these bytes to the output, or says that this failed.
-pub fn write_output<R: Print + Eprint>(rt: &R, bytes: &[u8]) {
-    if rt.write_all(bytes).is_err() {
-        say(rt, "planner: the output could not be written");
-    }
-}
-
-// Says that there is no answer, as the input was not read to its end.
-pub fn say_unread<R: Eprint>(rt: &R) {
-    say(rt, "planner: the input could not be read to its end");
-}
-
-// Writes a line for people. That it cannot be written is nothing that anybody could be told.
-fn say<R: Eprint>(rt: &R, line: &str) {
-    let _ = rt.eprintln(line);
 }

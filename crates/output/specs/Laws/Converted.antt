@@ -3,7 +3,6 @@ use Rattle.std.specs.Prelude.{ℕ, ◌≤◌, ◌<◌, List, ◌≡◌, refl, re
 use Rattle.std.proofs.Common.{arith, sym, ◌∙◌}
 use Rattle.std.proofs.Math.Path.{ap}
 use Rattle.std.proofs.Math.ListN.{length}
-use Rattle.std.proofs.lemmas.List.{length-replicate}
 use borrow.Author.Tests.{le-leb, le-ltb}
 use Rattle.scope.specs.Sheet.{Sheet, field_count, sheet_bytes, Valid}
 use Rattle.scope.specs.Causes.{Read, accepted, refused, most_bytes}
@@ -48,9 +47,7 @@ module _ (out : List ℕ) (room_for : most_bytes field_count ≤ length out) whe
   unfolding converted_of converted output
   converted_listed number place column now end w = wrote_placed (most_bytes field_count) (output_rows (refused number place column)) out now end room_for w
 
--- so what is converted stands in a buffer that has room for the longest sheet
-pub sheet_fits : (R : Read → Type 0) (after : List ℕ) (m : ℕ) → IsConverted R (replicate (most_bytes field_count) 0) (listing_result m after) → length after ≡ most_bytes field_count → m ≤ length after
+-- so what is converted is no longer than its buffer
+pub sheet_fits : (R : Read → Type 0) (out after : List ℕ) (m : ℕ) → IsConverted R out (listing_result m after) → length after ≡ length out → m ≤ length after
 unfolding converted_of
-sheet_fits R after m g n =
-    let w : m ≤ length {A = ℕ} (replicate (most_bytes field_count) 0) = placed_within (most_bytes field_count) (converted g.read) (replicate (most_bytes field_count) 0) (listing_result m after) g.given (n ∙ sym (length-replicate {A = ℕ} (most_bytes field_count) 0)) in
-    rw n (rw length-replicate at w)
+sheet_fits R out after m g n = rw n (placed_within (most_bytes field_count) (converted g.read) out (listing_result m after) g.given n)

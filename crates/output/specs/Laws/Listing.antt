@@ -117,10 +117,8 @@ refused_rows c h o e d heads =
     let none : o.length ≡ 0 = sym (lengths o) ∙ ap (λ r. r.length) e in
     rw none at (rows_are (told (Err c)) h o (replicate room 0) (ap (λ r. answered r (replicate room 0)) e) d [] heads refl)
 
--- ---- it stands in a buffer that has room for the longest
+-- ---- it is no longer than its buffer
 
-pub listing_fits : (R : Read → Type 0) (after : List ℕ) (m : ℕ) → IsListing R (replicate most_output 0) (listing_result m after) → length after ≡ most_output → m ≤ length after
+pub listing_fits : (R : Read → Type 0) (out after : List ℕ) (m : ℕ) → IsListing R out (listing_result m after) → length after ≡ length out → m ≤ length after
 unfolding listing_of
-listing_fits R after m g n =
-    let w : m ≤ length {A = ℕ} (replicate most_output 0) = placed_within most_output (output g.read) (replicate most_output 0) (listing_result m after) g.given (n ∙ sym (length-replicate {A = ℕ} most_output 0)) in
-    rw n (rw length-replicate at w)
+listing_fits R out after m g n = rw n (placed_within most_output (output g.read) out (listing_result m after) g.given n)

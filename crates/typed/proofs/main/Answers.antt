@@ -1,11 +1,6 @@
--- What was read and what is written are no longer than their buffers.
-use Rattle.std.proofs.Common.{rules, sym}
-use Rattle.std.proofs.Math.Seq.{length-take-le}
+-- What is printed is no longer than its buffer.
 use Rattle.output.specs.Laws.Listing.{listing_fits}
 use Rattle.typed.proofs.main.Goals as goal
 
-pub slice_bounds-out-end : goal.slice_bounds-out-end
-slice_bounds-out-end c = let p = c.print_listing-m in listing_fits _ p.new.out p.result p.ensures (search rules)
-
-pub slice_bounds-write_output-end : goal.slice_bounds-write_output-end
-slice_bounds-write_output-end c = let p = c.print_listing-m in sym (length-take-le _ _ (listing_fits _ p.new.out p.result p.ensures (search rules)))
+pub run-requires-clause-fits : goal.run-requires-clause-fits
+run-requires-clause-fits c s lent m left printed kept = listing_fits _ lent.now left.now m printed kept

@@ -1,0 +1,2 @@
+-- to believe
+pub mod Streams
