@@ -3,7 +3,7 @@
 // written is tested. An input that was not read to its end has no answer.
 #![tactic(auto)]
 
-use planner::sheets::print_listing;
+use planner::{Fixed, print_listing};
 
 // One byte more than a sheet may have, so that a longer one is told.
 const INPUT: usize = 9011;
@@ -11,5 +11,7 @@ const INPUT: usize = 9011;
 const OUTPUT: usize = 71_094;
 
 fn main(rt: HostRuntime) {
-    stream::run(&rt, &mut [0; INPUT], &mut [0; OUTPUT], print_listing);
+    stream::run(&rt, &mut [0; INPUT], &mut [0; OUTPUT], |s, out| {
+        print_listing::<Fixed>(s, out)
+    });
 }

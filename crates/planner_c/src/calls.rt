@@ -1,5 +1,5 @@
 // The calls for C and Rust. Each returns the number, and writes every other figure through a pointer.
-ghost use Rattle.std.specs.Prelude.{ℕ, List, [], ◌∷◌, ◌≡◌};
+ghost use Rattle.std.specs.Prelude.{[], ◌∷◌, ◌≡◌, IfOk, IfErr};
 ghost use Rattle.scope.specs.Sheet.{field_count};
 ghost use Rattle.scope.specs.Sheets.{SheetRead};
 ghost use Rattle.scope.specs.Texts.{TextRead};
@@ -10,7 +10,7 @@ ghost use Rattle.scope.specs.Writing.{written, IsWritten};
 ghost use Rattle.scope.specs.Program.{listing_result, IsListing};
 ghost use Rattle.scope.specs.Filling.{read_result, IsRead};
 ghost use Rattle.jobs.specs.Figures.{result_of, rating_of, figures, rating_figures};
-ghost use Rattle.planner.specs.Returned.{read_from};
+ghost use Rattle.words.specs.Refusals.{number_of};
 
 use jobs::outcome::{Outcome, Rating};
 use planner::{Fixed, Typed};
@@ -23,7 +23,8 @@ const DONE: u32 = 0;
 
 // Hands a cause out, or that there is none.
 fn hand_cause(done: Result<(), Cause>, place: &mut usize, column: &mut usize) -> u32
-    ensures { (u : List ℕ) → read_result result place.new column.new u ≡ read_from done u }
+    ensures none { IfOk done (λ u. (result ≡ 0) × (place.new ≡ 0) × (column.new ≡ 0)) }
+    ensures cause { IfErr done (λ c. (result ≡ number_of c.refusal) × (place.new ≡ c.place) × (column.new ≡ c.column)) }
 {
     match done {
         Ok(()) => {
@@ -50,12 +51,19 @@ fn hand_out(
 ) -> u32
     ensures { figures result place.new column.new plan.new cost.new length.new ≡ result_of outcome }
 {
-    (*plan, *cost) = match outcome.answer {
-        Ok(found) => (found.plan.0, found.cost),
-        Err(_) => (0, 0),
-    };
     *length = outcome.length;
-    hand_cause(outcome.answer.map(|_| ()), place, column)
+    match outcome.answer {
+        Ok(best) => {
+            *plan = best.plan.0;
+            *cost = best.cost;
+            hand_cause(Ok(()), place, column)
+        }
+        Err(cause) => {
+            *plan = 0;
+            *cost = 0;
+            hand_cause(Err(cause), place, column)
+        }
+    }
 }
 
 fn hand_out_rating(
@@ -69,16 +77,21 @@ fn hand_out_rating(
 ) -> u32
     ensures { rating_figures (rating_of rating) ≡ result ∷ place.new ∷ column.new ∷ cost.new ∷ sound.new ∷ pattern.new ∷ length.new ∷ [] }
 {
-    (*cost, *sound, *pattern) = match rating {
-        Ok(r) => (
-            r.cost,
-            u32::from(r.missed.is_none()),
-            r.missed.map_or(0, |q| q.0),
-        ),
-        Err(_) => (0, 0, 0),
-    };
     *length = 0;
-    hand_cause(rating.map(|_| ()), place, column)
+    match rating {
+        Ok(Rating { cost: c, missed }) => {
+            *cost = c;
+            *sound = u32::from(missed.is_none());
+            *pattern = missed.map_or(0, |q| q.0);
+            hand_cause(Ok(()), place, column)
+        }
+        Err(cause) => {
+            *cost = 0;
+            *sound = 0;
+            *pattern = 0;
+            hand_cause(Err(cause), place, column)
+        }
+    }
 }
 
 #[unsafe(no_mangle)]
@@ -262,7 +275,14 @@ pub extern "C" fn comzsered_write(
 ) -> u32
     ensures { IsWritten field_count tables.now out.old (written result place.new column.new length.new out.new) }
 {
-    let written = write(tables, out);
-    *length = written.unwrap_or(0);
-    hand_cause(written.map(|_| ()), place, column)
+    match write(tables, out) {
+        Ok(n) => {
+            *length = n;
+            hand_cause(Ok(()), place, column)
+        }
+        Err(cause) => {
+            *length = 0;
+            hand_cause(Err(cause), place, column)
+        }
+    }
 }

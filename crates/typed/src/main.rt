@@ -3,7 +3,7 @@
 // and standard output written is tested. An input that was not read to its end has no answer.
 #![tactic(auto)]
 
-use planner::texts::print_listing;
+use planner::{Typed, print_listing};
 
 // One byte more than a text may have, so that a longer one is told.
 const INPUT: usize = 16_385;
@@ -11,5 +11,7 @@ const INPUT: usize = 16_385;
 const OUTPUT: usize = 71_094;
 
 fn main(rt: HostRuntime) {
-    stream::run(&rt, &mut [0; INPUT], &mut [0; OUTPUT], print_listing);
+    stream::run(&rt, &mut [0; INPUT], &mut [0; OUTPUT], |s, out| {
+        print_listing::<Typed>(s, out)
+    });
 }
