@@ -152,6 +152,7 @@ fn column(n: u32, right: u32, sign: u8) -> u8
 }
 
 // A number, right-justified with spaces.
+#[tactic(auto, using(crate::proofs::Printed::field_columns))]
 pub fn field_bytes(x: Number) -> [u8; FIELD_SIZE]
     requires { fits (number_from x) ≡ true }
     ensures { result ≡ field (number_from x) }
