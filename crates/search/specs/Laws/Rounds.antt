@@ -16,9 +16,6 @@ use Rattle.search.specs.Steps.{fails_of, Fails}
 
 -- ---- plans that are known to fail
 
-pub none_fails : (t : Task) (l : List ℕ) → Fails t l None
-none_fails t l = record { fail = λ n h e. clash e refl }
-
 passes_front : (t : Task) (p : ℕ) (l : List ℕ) (q : ℕ) → passes_all t p (l ++ q ∷ []) ≡ true → (passes_all t p l ≡ true) × (t.passes p q ≡ true)
 passes_front t p [] q e = (refl, (both (t.passes p q) true e).0)
 passes_front t p (x ∷ l) q e =

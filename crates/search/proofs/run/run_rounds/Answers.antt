@@ -1,16 +1,13 @@
 -- The rule goes on from the patterns listed with the room that is left, the words after them are as they were lent, and the last
 -- candidate and every better plan fail the list. A round that lists nothing ends the rule; one that lists a pattern is one step of it
 -- where there is room, and where there is none the rule ends too.
-use Rattle.std.proofs.Common.{◌≡◌, ◌<◌, [], length, take, arith, sym, ◌∙◌}
+use Rattle.std.proofs.Common.{◌≡◌, ◌<◌, length, take, arith, sym, ◌∙◌}
 use Rattle.std.proofs.Math.Option.{none, some}
 use Rattle.scope.specs.Rule.{next}
 use Rattle.scope.specs.Jobs.{task}
-use Rattle.search.specs.Laws.Rounds.{none_fails, next_is, listed_fails}
-use Rattle.search.specs.Laws.Runs.{kept_none, kept_more, listed_more, on_start, on_more, on_done, on_full}
+use Rattle.search.specs.Laws.Rounds.{next_is, listed_fails}
+use Rattle.search.specs.Laws.Runs.{kept_more, listed_more, on_more, on_done, on_full}
 use Rattle.search.proofs.run.run_rounds.Goals as goal
-
-pub loop-pattern-init : goal.loop-pattern-init
-loop-pattern-init c = (kept_none c.args.list.now, on_start (task c.args.sheet.now) c.args.list.now, none_fails (task c.args.sheet.now) [])
 
 pub returns-in_default : goal.returns-in_default
 returns-in_default c =
