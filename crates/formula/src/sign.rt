@@ -12,7 +12,7 @@ const CLOSE: u8 = b')';
 const FEED: u8 = b'\n';
 
 // Whether this sign comes next.
-pub fn goes_on(s: &[u8], at: usize, sign: u8) -> bool
+pub(crate) fn goes_on(s: &[u8], at: usize, sign: u8) -> bool
     ensures { result ≡ eqb (sign_at s.now at) sign }
 {
     next_is(s, skip(s, at), sign)
