@@ -3,6 +3,10 @@
 // written is tested. An input that was not read to its end has no answer.
 #![tactic(auto)]
 
+ghost use Rattle.scope.specs.Sheet.{field_count};
+ghost use Rattle.scope.specs.Sheets.{SheetRead};
+ghost use Rattle.scope.specs.Program.{listing_result, IsListing};
+
 use planner::{Fixed, print_listing};
 
 // One byte more than a sheet may have, so that a longer one is told.
@@ -10,8 +14,12 @@ const INPUT: usize = 9011;
 // The longest listing.
 const OUTPUT: usize = 71_094;
 
+fn print(sheet: &[u8], out: &mut [u8]) -> usize
+    ensures { IsListing (SheetRead field_count sheet.now) out.old (listing_result result out.new) }
+{
+    print_listing::<Fixed>(sheet, out)
+}
+
 fn main(rt: HostRuntime) {
-    stream::run(&rt, &mut [0; INPUT], &mut [0; OUTPUT], |s, out| {
-        print_listing::<Fixed>(s, out)
-    });
+    stream::run(&rt, &mut [0; INPUT], &mut [0; OUTPUT], print);
 }

@@ -3,6 +3,9 @@
 // and standard output written is tested. An input that was not read to its end has no answer.
 #![tactic(auto)]
 
+ghost use Rattle.scope.specs.Texts.{TextRead};
+ghost use Rattle.scope.specs.Program.{listing_result, IsListing};
+
 use planner::{Typed, print_listing};
 
 // One byte more than a text may have, so that a longer one is told.
@@ -10,8 +13,12 @@ const INPUT: usize = 16_385;
 // The longest listing.
 const OUTPUT: usize = 71_094;
 
+fn print(text: &[u8], out: &mut [u8]) -> usize
+    ensures { IsListing (TextRead text.now) out.old (listing_result result out.new) }
+{
+    print_listing::<Typed>(text, out)
+}
+
 fn main(rt: HostRuntime) {
-    stream::run(&rt, &mut [0; INPUT], &mut [0; OUTPUT], |s, out| {
-        print_listing::<Typed>(s, out)
-    });
+    stream::run(&rt, &mut [0; INPUT], &mut [0; OUTPUT], print);
 }
