@@ -367,7 +367,8 @@ find crates -path '*/out' -prune -o -path '*/src/*.rt' -exec awk '
     }' {} + | sort -u >"$work/functions"
 sed -n 's/^[DT] //p' "$work/words" >"$work/found"
 within "docs/CLAIMS.md names a definition or theorem that is not there" "$work/found" "$work/defined"
-sed -n 's/^P //p' "$work/words" >"$work/found"
+# A function of a form, `planner::answer::<Typed>`, is the function, and the type in its crate.
+sed -n 's/^P //p' "$work/words" | sed 's/^\([a-z_]*\)\(.*\)::<\([A-Za-z]*\)>$/\1\2\n\1::\3/' >"$work/found"
 within "docs/CLAIMS.md names a function that is not there" "$work/found" "$work/functions"
 
 # ---- quotations
