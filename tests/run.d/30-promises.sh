@@ -81,15 +81,16 @@ promises() {
         }
         # Whether this is exported of a file.
         function handed(file, of) { return (file " *") in open || (file " " of) in open }
-        # The head of a function has come to its end: the types of its parameters, and its result.
+        # The head of a function has come to its end: the types of its parameters, and all that stand there.
         function parameters(    i, deep, c, n, part) {
             heading = 0
             if (!out) return
-            sub(/^[^(]*/, "", head)
+            gsub(/->/, "@", head)
             for (i = 1; i <= length(head); i++) {
                 c = substr(head, i, 1)
-                if (c == "(") deep++
-                if (c == ")" && --deep == 0) break
+                if (c ~ /[(<[]/) deep++
+                if (c ~ /[)>\]]/) deep--
+                if (c == "@" && deep == 0) break
             }
             n = split(substr(head, 1, i), part, /[^A-Za-z0-9_]+/)
             for (i = 1; i <= n; i++) asks[part[i]] = FILENAME ": " fn
