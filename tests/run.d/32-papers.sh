@@ -69,7 +69,19 @@ rows() { # FILE HEAD
 upper() { sed 's/\([a-z]\)\([A-Z]\)/\1_\2/g' | tr '[:lower:]' '[:upper:]'; }
 variants() { sed -n '/^pub enum Cause/,/^}/s/^    \([A-Za-z]*\) = \([0-9]*\),$/\2 \1/p' "$causes" | upper; }
 
-sed -n 's/^pub const [A-Z_]*: u32 = \([0-9]*\);$/\1/p' crates/words/src/refusal.rt | sort -n >"$work/numbers"
+# The code's: a variant's number is told, or one more than that of the variant before it.
+awk '
+    /^pub enum Refusal \{/ { inside = 1; next }
+    /^}/ { inside = 0 }
+    !inside || /^ *\/\// { next }
+    /^    [A-Z][A-Za-z]*,$/ { print ++n; next }
+    /^    [A-Z][A-Za-z]* = [0-9]+,$/ { n = $3 + 0; print n; next }
+    { print "odd: " $0 }' crates/words/src/refusal.rt | sort -n >"$work/numbers"
+# Those that promises go by, which are to be believed, with the same variants.
+sed -n 's/^number_of \([A-Za-z]*\) = \([0-9]*\)$/\2 \1/p' crates/words/specs/Refusals.antt >"$work/found"
+sed -n '/^pub enum Refusal {/,/^}/s/^    \([A-Z][A-Za-z]*\).*,$/\1/p' crates/words/src/refusal.rt |
+    paste -d ' ' "$work/numbers" - >"$work/variants"
+same "crates/words/specs/Refusals.antt has other refusals than the code" "$work/variants" "$work/found"
 { echo 0 && cat "$work/numbers"; } >"$work/all"
 
 rows README.md '| Number | In words |' >"$work/found"
@@ -93,12 +105,18 @@ same "the binding lists other causes than it has" "$work/listed" "$work/found"
 
 heading "limits"
 
-# A constant of the code.
+# A constant of the code: a number, or the name of a limit.
 constant() { # FILE NAME
-    value=$(sed -n "s/^\(pub \)\{0,1\}const $2: [a-z0-9]* = \([0-9_]*\);\$/\2/p" "crates/$1" | tr -d _)
+    value=$(sed -n "s/^\(pub \)\{0,1\}const $2: [a-z0-9]* = \([A-Z0-9_]*\);\$/\2/p" "crates/$1")
+    case $value in
+        [A-Z]*) limit "$value" ;;
+        *) echo "${value:-0}" | tr -d _ ;;
+    esac
+}
+limit() { # NAME
+    value=$(sed -n "s/^pub const $1: [a-z0-9]* = \([0-9_]*\);\$/\1/p" crates/words/src/limit.rt | tr -d _)
     echo "${value:-0}"
 }
-limit() { constant words/src/limit.rt "$1"; }
 
 # As papers write it: 16384 is 16,384.
 commas() { echo "$1" | sed -e :a -e 's/^\([0-9]*[0-9]\)\([0-9]\{3\}\)/\1,\2/' -e ta; }
@@ -313,7 +331,8 @@ items docs/CLAIMS.md | awk '
             $0 = substr($0, RSTART + RLENGTH)
         }
     }' | sort -u >"$work/words"
-# What there is: definitions by name and as MODULE.NAME, modules of specs/, and of proofs/ of the scope and the examples; functions, and modules of the code.
+# What there is: definitions by name and as MODULE.NAME, modules of specs/, and of proofs/ of the scope and the examples; functions,
+# methods as TYPE::NAME, traits and types that have methods, and modules of the code.
 find crates -path '*/out' -prune -o \( -path '*/specs/*.antt' -o -path 'crates/scope/proofs/*.antt' -o -path 'crates/examples/proofs/*.antt' \) -exec awk '
     FNR == 1 {
         module = FILENAME; sub(/^crates\//, "", module); sub(/\.antt$/, "", module); print module
@@ -328,19 +347,28 @@ find crates -path '*/out' -prune -o \( -path '*/specs/*.antt' -o -path 'crates/s
     }' {} + | sort -u >"$work/defined"
 find crates -path '*/out' -prune -o -path '*/src/*.rt' -exec awk '
     FNR == 1 {
+        owner = ""
         crate = FILENAME; sub(/^crates\//, "", crate); sub(/\/.*/, "", crate)
         module = FILENAME; sub(/.*\//, "", module); sub(/\.rt$/, "", module)
         print crate "::" module
     }
-    /^ *(pub )?(extern "C" )?fn / {
+    /^(pub )?(trait|impl)/ {
+        owner = $0; sub(/^(pub )?(trait|impl)(<[^>]*>)? /, "", owner); sub(/.* for /, "", owner); sub(/[^A-Za-z0-9_].*/, "", owner)
+        print crate "::" owner
+        print crate "::" module "::" owner
+    }
+    /^}/ { owner = "" }
+    /^ *(pub(\([a-z]*\))? )?(extern "C" )?fn / {
         name = $0; sub(/.*fn /, "", name); sub(/[^a-z0-9_].*/, "", name)
         print name
         print crate "::" name
         print crate "::" module "::" name
+        if (owner != "") { print owner "::" name; print crate "::" owner "::" name; print crate "::" module "::" owner "::" name }
     }' {} + | sort -u >"$work/functions"
 sed -n 's/^[DT] //p' "$work/words" >"$work/found"
 within "docs/CLAIMS.md names a definition or theorem that is not there" "$work/found" "$work/defined"
-sed -n 's/^P //p' "$work/words" >"$work/found"
+# A function of a form, `planner::answer::<Typed>`, is the function, and the type in its crate.
+sed -n 's/^P //p' "$work/words" | sed 's/^\([a-z_]*\)\(.*\)::<\([A-Za-z]*\)>$/\1\2\n\1::\3/' >"$work/found"
 within "docs/CLAIMS.md names a function that is not there" "$work/found" "$work/functions"
 
 # ---- quotations
