@@ -183,7 +183,14 @@ pub extern "C" fn comzsered_text_answer(
 ) -> u32
     ensures { IsAnswer (TextRead text.now) list.old (answered (figures result place.new column.new plan.new cost.new length.new) list.new) }
 {
-    hand_out(planner::answer::<Typed>(text, list), place, column, plan, cost, length)
+    hand_out(
+        planner::answer::<Typed>(text, list),
+        place,
+        column,
+        plan,
+        cost,
+        length,
+    )
 }
 
 #[unsafe(no_mangle)]
