@@ -8,6 +8,16 @@ ghost use Rattle.line.specs.Lines.{numbers_from, fields_front};
 use crate::line::LINE_FEED;
 use field::{FIELD_SIZE, Number, field_bytes};
 
+// Puts the columns of a number, one by one: copied as a whole they pass through memory, and writing a full sheet misses its bar.
+fn put_columns(out: &mut [u8], columns: [u8; FIELD_SIZE])
+    requires { length out.old ≡ field_size }
+    ensures { out.new ≡ columns }
+{
+    for i in 0..FIELD_SIZE {
+        out[i] = columns[i];
+    }
+}
+
 // Puts numbers one after another into their columns.
 fn put_fields(out: &mut [u8], numbers: &[Number])
     requires fit { Fit (numbers_from numbers.now) }
@@ -16,7 +26,7 @@ fn put_fields(out: &mut [u8], numbers: &[Number])
 {
     for (i, x) in numbers.iter().enumerate() {
         let at = i * FIELD_SIZE;
-        out[at..at + FIELD_SIZE].copy_from_slice(&field_bytes(*x));
+        put_columns(&mut out[at..at + FIELD_SIZE], field_bytes(*x));
     }
 }
 

@@ -7,17 +7,18 @@ ghost use Rattle.scope.specs.Texts.{TextRead};
 ghost use Rattle.scope.specs.Source.{Source};
 ghost use Rattle.scope.proofs.Claims.{form_source};
 ghost use Rattle.scope.specs.Source as scope;
-ghost use Rattle.words.specs.Told.{told};
+ghost use Rattle.words.specs.Told.{Fills};
 
+use words::Words;
 use words::refusal::Cause;
-use words::sheet::Sheet;
 
 // A form: what is read of bytes, and the reader that is proved to read that.
 pub trait Form {
     ghost Reading: { List ℕ → Read → Type 0 };
 
-    fn read(s: &[u8]) -> Result<Sheet, Cause>
-        ensures { Reading s.now (told result) };
+    // Fills the words, or tells the cause to turn the bytes down.
+    fn read(s: &[u8], words: &mut Words) -> Result<(), Cause>
+        ensures { Fills (Reading s.now) result words.new };
 
     // what is read is a source for the jobs
     ghost source: { (s : List ℕ) (r : Read) → Reading s r → Source r };
@@ -31,8 +32,8 @@ impl Form for Fixed {
 
     ghost source = { λ s r. form_source (scope.Form.sheet s) r };
 
-    fn read(s: &[u8]) -> Result<Sheet, Cause> {
-        sheet::read(s)
+    fn read(s: &[u8], words: &mut Words) -> Result<(), Cause> {
+        sheet::read(s, words)
     }
 }
 
@@ -44,7 +45,7 @@ impl Form for Typed {
 
     ghost source = { λ s r. form_source (scope.Form.text s) r };
 
-    fn read(s: &[u8]) -> Result<Sheet, Cause> {
-        text::read(s)
+    fn read(s: &[u8], words: &mut Words) -> Result<(), Cause> {
+        text::read(s, words)
     }
 }

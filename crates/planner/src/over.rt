@@ -4,19 +4,30 @@ ghost use Rattle.scope.specs.Demands.{IsPair};
 ghost use Rattle.scope.specs.Program.{listing_result, IsListing, IsConverted};
 ghost use Rattle.scope.specs.Filling.{IsRead};
 ghost use Rattle.jobs.specs.Figures.{result_of, rating_of, answer_from};
+ghost use Rattle.words.specs.Told.{told};
 ghost use Rattle.planner.specs.Returned.{read_from};
 
 use crate::form::Form;
 use jobs::outcome::{Outcome, PairRuns, Rating};
 use output::{put_output, put_sheet};
 use words::refusal::Cause;
-use words::{Plan, Words};
+use words::sheet::Sheet;
+use words::{Plan, WORDS, Words};
+
+// The valid sheet that bytes stand for, or the first cause to turn them down.
+fn sheet_of<F: Form>(s: &[u8]) -> Result<Sheet, Cause>
+    ensures { F.Reading s.now (told result) }
+{
+    let mut words = [0; WORDS];
+    F::read(s, &mut words)?;
+    Ok(Sheet::new(words))
+}
 
 // Answer: the list goes into `list`, and words after it keep their content.
 pub fn answer<F: Form>(s: &[u8], list: &mut [u32]) -> Outcome
     ensures { IsAnswer (F.Reading s.now) list.old (answer_from result list.new) }
 {
-    match F::read(s) {
+    match sheet_of::<F>(s) {
         Ok(sheet) => jobs::answer::answer(&sheet, list),
         Err(cause) => Outcome::refused(cause, 0),
     }
@@ -26,7 +37,7 @@ pub fn answer<F: Form>(s: &[u8], list: &mut [u32]) -> Outcome
 pub fn short_run<F: Form>(s: &[u8], patterns: &[u32]) -> Outcome
     ensures { IsShortRun (F.Reading s.now) patterns.now (result_of result) }
 {
-    match F::read(s) {
+    match sheet_of::<F>(s) {
         Ok(sheet) => jobs::answer::short_run(&sheet, patterns),
         Err(cause) => Outcome::refused(cause, 0),
     }
@@ -36,14 +47,14 @@ pub fn short_run<F: Form>(s: &[u8], patterns: &[u32]) -> Outcome
 pub fn rate<F: Form>(s: &[u8], plan: Plan) -> Result<Rating, Cause>
     ensures { IsRating (F.Reading s.now) plan.0 (rating_of result) }
 {
-    jobs::rating::rate(&F::read(s)?, plan)
+    jobs::rating::rate(&sheet_of::<F>(s)?, plan)
 }
 
 // Demand 3: Answer, then Short run over what it listed, and over the first `j` words of that.
 pub fn run_pair<F: Form>(s: &[u8], list: &mut [u32], j: usize) -> PairRuns
     ensures { IsPair (F.Reading s.now) list.old j (answer_from result.full list.new) (result_of result.short) (result_of result.front) }
 {
-    match F::read(s) {
+    match sheet_of::<F>(s) {
         Ok(sheet) => jobs::pair::run_pair(&sheet, list, j),
         Err(cause) => PairRuns::refused(cause),
     }
@@ -53,21 +64,22 @@ pub fn run_pair<F: Form>(s: &[u8], list: &mut [u32], j: usize) -> PairRuns
 pub fn print_listing<F: Form>(s: &[u8], out: &mut [u8]) -> usize
     ensures { IsListing (F.Reading s.now) out.old (listing_result result out.new) }
 {
-    put_output(&F::read(s), out)
+    put_output(&sheet_of::<F>(s), out)
 }
 
 // The sheet put at the beginning of `out`, or the lines that tell its refusal; the length is returned.
 pub fn print_sheet<F: Form>(s: &[u8], out: &mut [u8]) -> usize
     ensures { IsConverted (F.Reading s.now) out.old (listing_result result out.new) }
 {
-    put_sheet(&F::read(s), out)
+    put_sheet(&sheet_of::<F>(s), out)
 }
 
 // Its tables put into lent ones; after a refusal these are as they were.
 pub fn read<F: Form>(s: &[u8], tables: &mut Words) -> Result<(), Cause>
     ensures { IsRead (F.Reading s.now) tables.old (read_from result tables.new) }
 {
-    let sheet = F::read(s)?;
-    *tables = *sheet.words();
+    let mut words = [0; WORDS];
+    F::read(s, &mut words)?;
+    *tables = words;
     Ok(())
 }

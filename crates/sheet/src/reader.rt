@@ -7,7 +7,7 @@ ghost use Rattle.scope.specs.Sheets.{SheetRead};
 ghost use Rattle.scope.specs.Words.{literal_code, wish_words};
 ghost use Rattle.field.specs.Columns.{number_from};
 ghost use Rattle.words.specs.Entries.{counts_from};
-ghost use Rattle.words.specs.Told.{told};
+ghost use Rattle.words.specs.Told.{Fills};
 ghost use Rattle.line.specs.Lines.{numbers_from, line_from};
 ghost use Rattle.sheet.specs.Steps.{AreLiterals, Suited, Takes, LineTold};
 
@@ -20,7 +20,6 @@ use words::limit::{MOST_GATES, MOST_RULES, MOST_WISHES};
 use words::literal::Literal;
 use words::refusal::{Cause, Refusal};
 use words::rule::put_rule;
-use words::sheet::Sheet;
 use words::wish::{Wish, put_wish};
 use words::{WORDS, Words};
 
@@ -88,24 +87,24 @@ fn line_in<const N: usize>(bytes: &[u8], place: &Place<N>) -> Result<Line<N>, Ca
 }
 
 // The lines of a sheet whose length is right.
-fn read_lines<const N: usize>(s: &[u8]) -> Result<Sheet, Cause>
+fn read_lines<const N: usize>(s: &[u8], words: &mut Words) -> Result<(), Cause>
     requires form { (3 ≤ N) × (N ≤ 4) }
     requires right { length_ok N (length s.now) ≡ true }
-    ensures { SheetRead N s.now (told result) }
+    ensures { Fills (SheetRead N s.now) result words.new }
 {
     let size = line_size(N);
     let count = s.len() / size;
-    let mut words = [0; WORDS];
+    *words = [0; WORDS];
     for (k, bytes) in s.chunks_exact(size).enumerate() {
         let place = Place::<N> {
-            before: counts_of(&words),
+            before: counts_of(words),
             index: k,
             last: k + 1 == count,
         };
         let line = line_in::<N>(bytes, &place)?;
-        take_line(&mut words, &line);
+        take_line(words, &line);
     }
-    Ok(Sheet::new(words))
+    Ok(())
 }
 
 // Whether so many bytes make whole lines of N fields, not too many.
@@ -118,19 +117,20 @@ fn is_length<const N: usize>(bytes: usize) -> bool
 }
 
 // A sheet whose lines have N fields.
-fn read_form<const N: usize>(s: &[u8]) -> Result<Sheet, Cause>
+fn read_form<const N: usize>(s: &[u8], words: &mut Words) -> Result<(), Cause>
     requires { (3 ≤ N) × (N ≤ 4) }
-    ensures { SheetRead N s.now (told result) }
+    ensures { Fills (SheetRead N s.now) result words.new }
 {
     if !is_length::<N>(s.len()) {
         return Err(Cause::at(Refusal::Length, 0));
     }
-    read_lines::<N>(s)
+    read_lines::<N>(s, words)
 }
 
-// What a sheet says, or the first cause to turn it down.
-pub fn read(s: &[u8]) -> Result<Sheet, Cause>
-    ensures { SheetRead field_count s.now (told result) }
+// Fills the words with what a sheet says, or tells the first cause to turn it down. The words are lent: handed back by value, they are
+// copied several times, and Answer of the smallest sheet misses its bar.
+pub fn read(s: &[u8], words: &mut Words) -> Result<(), Cause>
+    ensures { Fills (SheetRead field_count s.now) result words.new }
 {
-    read_form::<FIELD_COUNT>(s)
+    read_form::<FIELD_COUNT>(s, words)
 }

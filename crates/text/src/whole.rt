@@ -4,7 +4,7 @@ ghost use Rattle.scope.specs.Causes.{started};
 ghost use Rattle.scope.specs.Typed.{most_text};
 ghost use Rattle.scope.specs.Texts.{TextRead};
 ghost use Rattle.scope.specs.Words.{words_of};
-ghost use Rattle.words.specs.Told.{told};
+ghost use Rattle.words.specs.Told.{Fills};
 ghost use Rattle.text.specs.Texts.{LinesTold};
 
 use crate::head::{head_at, head_lines};
@@ -14,7 +14,6 @@ use crate::wish::wish_lines;
 use scanner::token::Stuck;
 use words::counts::put_head;
 use words::refusal::{Cause, Refusal};
-use words::sheet::Sheet;
 use words::{WORDS, Words};
 
 const MOST_TEXT: usize = 16384;
@@ -35,20 +34,20 @@ fn lines_of(s: &[u8], words: &mut Words) -> Result<Lines, Stuck>
     Ok(l)
 }
 
-// The sheet that a text stands for, or the first cause to turn it down: the place where no legal text goes on, counted from 1, or the
+// The words of the sheet that a text stands for, or the first cause to turn it down: the place where no legal text goes on, counted from 1, or the
 // first line at fault.
-pub fn read(s: &[u8]) -> Result<Sheet, Cause>
-    ensures { TextRead s.now (told result) }
+pub fn read(s: &[u8], words: &mut Words) -> Result<(), Cause>
+    ensures { Fills (TextRead s.now) result words.new }
 {
     if MOST_TEXT < s.len() {
         return Err(Cause::at(Refusal::Illegal, 0));
     }
-    let mut words = [0; WORDS];
-    match lines_of(s, &mut words) {
+    *words = [0; WORDS];
+    match lines_of(s, words) {
         Err(Stuck(at)) => Err(Cause::at(Refusal::Illegal, at + 1)),
         Ok(l) => match l.fault {
             Some(fault) => Err(Cause::at(fault.refusal, fault.line)),
-            None => Ok(Sheet::new(words)),
+            None => Ok(()),
         },
     }
 }

@@ -1,8 +1,7 @@
 // A valid sheet, and its entries.
 ghost use Rattle.std.specs.Prelude.{[], ◌≡◌, ◌<◌, length, get_or};
 ghost use Rattle.scope.specs.Sheet.{Valid};
-ghost use Rattle.scope.specs.Sheet as scope;
-ghost use Rattle.scope.specs.Words.{no_gate, words_of};
+ghost use Rattle.scope.specs.Words.{no_gate, held};
 ghost use Rattle.words.specs.Entries.{counts_from, gate_from, clause_from};
 
 use crate::Words;
@@ -12,36 +11,33 @@ use crate::rule::rule_at;
 use crate::wish::{Wish, wish_at};
 use std::marker::Model;
 
-// The words of a valid sheet: zeros stand beyond its counts.
+// The words of a valid sheet. What stands beyond its counts is ignored.
 #[derive(Drop)]
 pub struct Sheet {
     words: Words,
 }
 
 impl Model for Sheet {
-    ghost use Rattle.std.specs.Prelude.{◌≡◌};
     ghost use Rattle.scope.specs.Sheet.{Sheet, Valid};
-    ghost use Rattle.scope.specs.Words.{held, words_of};
+    ghost use Rattle.scope.specs.Words.{held};
 
     ghost Value = { Sheet };
 
     ghost view = { λ s. held s.words };
 
-    ghost invariant = { λ s. Valid (held s.words) × (s.words ≡ words_of (held s.words)) };
+    ghost invariant = { λ s. Valid (held s.words) };
 }
 
 impl Sheet {
     pub fn new(words: Words) -> Sheet
-        ghost t: { scope.Sheet }
-        requires valid { Valid t }
-        requires words { words ≡ words_of t }
-        ensures { result ≡ t }
+        requires { Valid (held words) }
+        ensures { result ≡ held words }
     {
         Sheet { words }
     }
 
     pub fn words(&self) -> &Words
-        ensures { result.now ≡ words_of self.now }
+        ensures { held result.now ≡ self.now }
     {
         &self.words
     }

@@ -6,13 +6,12 @@ use Rattle.std.proofs.Math.ListN.{length}
 use borrow.Author.Tests.{le-leb, le-ltb}
 use Rattle.scope.specs.Sheet.{Sheet, field_count, sheet_bytes, Valid}
 use Rattle.scope.specs.Causes.{Read, accepted, refused, most_bytes}
-use Rattle.scope.specs.Words.{held, words_of}
+use Rattle.scope.specs.Words.{held}
 use Rattle.scope.specs.Writing.{WriteResult, written_of, IsWritten}
 use Rattle.scope.specs.Source.{Source}
 use Rattle.scope.specs.Program.{Row, output, output_rows, listing_result, converted, converted_of, IsConverted}
 use Rattle.scope.proofs.Claims.{converted_fits}
 use Rattle.scope.proofs.Laws.TableReads.{valid_read}
-use Rattle.scope.proofs.Laws.Words.{held_words}
 use Rattle.std.specs.Result.{result_unwrap_or}
 use Rattle.words.specs.declared.refusal.Cause.{Cause}
 use Rattle.writer.specs.Returned.{written_from}
@@ -33,11 +32,10 @@ unwrapped (Err c) now = refl
 
 module _ (out : List ℕ) (room_for : most_bytes field_count ≤ length out) where
   -- the writer gives the sheet that the words hold, as it is valid and there is room for it
-  pub converted_written : (t : Sheet) (s : List ℕ) → Source (accepted t) → Valid t → s ≡ words_of t → (w : WriteResult) → IsWritten field_count s out w → listing_result w.length w.buffer ≡ converted_of (accepted t) out
+  pub converted_written : (t : Sheet) (s : List ℕ) → Source (accepted t) → Valid t → held s ≡ t → (w : WriteResult) → IsWritten field_count s out w → listing_result w.length w.buffer ≡ converted_of (accepted t) out
   unfolding converted_of converted
   converted_written t s h v e w g =
-      let k : held s ≡ t = ap held e ∙ held_words t v in
-      let r : g.read ≡ accepted t = valid_read field_count (omega arith) t v (rw k at g.is_read) in
+      let r : g.read ≡ accepted t = valid_read field_count (omega arith) t v (rw e at g.is_read) in
       let n : length (sheet_bytes field_count t) ≤ most_bytes field_count = converted_fits (accepted t) h in
       let f : w ≡ written_of field_count (accepted t) out = g.given ∙ ap (λ r. written_of field_count r out) r in
       rw (f, le-leb (length (sheet_bytes field_count t)) (length out) (omega arith), le-ltb (length out) (most_bytes field_count) room_for) refl

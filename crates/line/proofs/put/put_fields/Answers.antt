@@ -12,4 +12,4 @@ pub field_bytes-requires : goal.field_bytes-requires
 field_bytes-requires c = fit_at _ _ _ c.requires.fit c.loop-i-test.true
 
 pub loop-i-preserved : goal.loop-i-preserved
-loop-i-preserved c = next_field c.args.numbers.now c.loop-i.out _ c.loop-i.i _ _ c.requires.fit c.loop-i-test.true (c.loop-i.auto.out ∙ c.requires.whole) (c.copy_from_slice.ensures.after ∙ c.field_bytes.ensures) c.loop-i.invariant
+loop-i-preserved c = next_field c.args.numbers.now c.loop-i.out _ c.loop-i.i _ _ c.requires.fit c.loop-i-test.true (c.loop-i.auto.out ∙ c.requires.whole) (c.put_columns.ensures ∙ c.field_bytes.ensures) c.loop-i.invariant

@@ -1,7 +1,10 @@
 -- A line that is turned down is the first cause, and one that is not is put into the words.
 use Rattle.std.proofs.Common.{rules, ap, ◌∙◌, ◌/◌, length}
 use Rattle.std.proofs.lemmas.Result.{err_from_is_err_and}
+use Rattle.scope.specs.Sheets.{SheetRead}
+use Rattle.scope.specs.Words.{held}
 use Rattle.words.specs.Laws.Sheets.{zero_words}
+use Rattle.words.specs.Laws.Told.{fills_accepted, fills_refused}
 use Rattle.sheet.proofs.Lines.{begun, few, turned_down, suited, reading, held_valid, held_words, taken_in}
 use Rattle.sheet.proofs.reader.read_lines.Goals as goal
 
@@ -18,7 +21,7 @@ returns-in_err-line g c =
     let p = err_from_is_err_and c.from_residual.result c.from_residual.ensures.1 in
     let a = c.in-Some.ensures.steps in
     let r = rw (← a.1) at c.loop-k.invariant in
-    rw (p.1, p.2) (turned_down _ _ _ _ _ _ r _ c.counts_of.ensures _ _ a.0.1.0 a.0.1.1 _ (ap (λ z. length c.args.s.now / z) c.line_size-size.ensures) _ c.in_err-line.ensures)
+    rw (p.1, p.2) (fills_refused (SheetRead g.row.N c.args.s.now) _ _ (turned_down _ _ _ _ _ _ r _ c.counts_of.ensures _ _ a.0.1.0 a.0.1.1 _ (ap (λ z. length c.args.s.now / z) c.line_size-size.ensures) _ c.in_err-line.ensures))
 
 pub take_line-requires : goal.take_line-requires
 take_line-requires g c =
@@ -32,10 +35,8 @@ loop-k-preserved g c =
     let r = rw (← a.1) at c.loop-k.invariant in
     rw (a.0.0, a.2, ← a.1) (reading _ _ _ _ _ _ r _ c.counts_of.ensures _ _ a.0.1.0 a.0.1.1 _ (ap (λ z. length c.args.s.now / z) c.line_size-size.ensures) _ c.in_ok-line.ensures _ c.take_line.ensures)
 
-pub new-requires : goal.new-requires
-new-requires g c =
-    let short = c.in-None.ensures.steps.0.1.0 in
-    (held_valid _ _ _ _ _ _ c.loop-k.invariant short, held_words _ _ _ _ _ _ c.loop-k.invariant short)
-
 pub returns : goal.returns
-returns g c = rw c.new.ensures (taken_in _ _ _ _ _ _ c.loop-k.invariant c.in-None.ensures.steps.0.1.0)
+returns g c =
+    let short = c.in-None.ensures.steps.0.1.0 in
+    let r = c.loop-k.invariant in
+    fills_accepted (SheetRead g.row.N c.args.s.now) (held c.loop-k.words) c.loop-k.words (taken_in _ _ _ _ _ _ r short) (held_valid _ _ _ _ _ _ r short) (held_words _ _ _ _ _ _ r short)

@@ -3,12 +3,8 @@
 -- the sheet is accepted as what they say, which the words hold.
 use Rattle.std.specs.Iterator.Adapters.{enumerate_source, enumerate_count}
 use Rattle.std.specs.Slice.Iter.{chunks_exact_rest, chunks_exact_size}
-use Rattle.scope.specs.Words.{held}
 use Rattle.sheet.proofs.Lines.{Reading}
 use Rattle.sheet.proofs.reader.read_lines.Given as goal
-
-abbrev pub ghost-new : goal.ghost-new
-ghost-new g a = held a.words
 
 abbrev pub invariant-loop-k : goal.invariant-loop-k
 invariant-loop-k g l = Reading g.row.N l.s (chunks_exact_size (enumerate_source l.k-iterator)) (chunks_exact_rest (enumerate_source l.k-iterator)) (enumerate_count l.k-iterator) l.words

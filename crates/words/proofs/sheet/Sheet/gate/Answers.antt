@@ -20,15 +20,15 @@ gate_of s i w v r h =
 
 pub returns-in-78 : goal.returns-in-78
 returns-in-78 c =
-    let g = gate_of c.self.inside.words c.args.i c.gate_words.result c.self.invariant.0 c.gate_words.ensures (rw (← c.self.view_is) at c.requires) in
+    let g = gate_of c.self.inside.words c.args.i c.gate_words.result c.self.invariant c.gate_words.ensures (rw (← c.self.view_is) at c.requires) in
     rw (← c.self.view_is) (kind_not g.gate g.words c.in-78.is ∙ g.at)
 
 pub returns-in-65 : goal.returns-in-65
 returns-in-65 c =
-    let g = gate_of c.self.inside.words c.args.i c.gate_words.result c.self.invariant.0 c.gate_words.ensures (rw (← c.self.view_is) at c.requires) in
+    let g = gate_of c.self.inside.words c.args.i c.gate_words.result c.self.invariant c.gate_words.ensures (rw (← c.self.view_is) at c.requires) in
     rw (← c.self.view_is) (kind_and g.gate g.words c.in-65.is ∙ g.at)
 
 pub returns-in_default : goal.returns-in_default
 returns-in_default c =
-    let g = gate_of c.self.inside.words c.args.i c.gate_words.result c.self.invariant.0 c.gate_words.ensures (rw (← c.self.view_is) at c.requires) in
+    let g = gate_of c.self.inside.words c.args.i c.gate_words.result c.self.invariant c.gate_words.ensures (rw (← c.self.view_is) at c.requires) in
     rw (← c.self.view_is) (kind_or g.gate g.words (λ e. omega (arith, e, c.in_default)) (λ e. omega (arith, e, c.in_default)) ∙ g.at)
