@@ -8,7 +8,7 @@ ghost use Rattle.formula.specs.Formulas.{Asked, Numbered, AtomRead, LevelRead, E
 use crate::parsed::Parsed;
 use crate::points::Points;
 use crate::sign::{closed, goes_on, operand_at};
-use scanner::reader::{look, skip};
+use scanner::reader::{BANG, look, skip};
 use scanner::token::{Stuck, number_at};
 use words::Words;
 use words::gate::Gate;
@@ -16,8 +16,6 @@ use words::gate::Gate;
 const SWITCH: u8 = b's';
 
 const FAULT: u8 = b'f';
-
-const BANG: u8 = b'!';
 
 const OPEN: u8 = b'(';
 

@@ -8,7 +8,7 @@ ghost use Rattle.text.specs.Wishes.{WithLiteral, LiteralRead, OneMore, LiteralsR
 
 use crate::lines::Lines;
 use formula::points::Points;
-use scanner::reader::{next_is, past_byte};
+use scanner::reader::{BANG, FEED, SPACE, next_is, past_byte};
 use scanner::token::{Stuck, named_at, word_at};
 use words::Words;
 use words::limit::{MOST_LITERALS, MOST_WISHES};
@@ -16,12 +16,6 @@ use words::literal::Literal;
 use words::wish::{WISH_SIZE, Wish, put_wish};
 
 const WISH: u8 = b'w';
-
-const BANG: u8 = b'!';
-
-const SPACE: u8 = b' ';
-
-const FEED: u8 = b'\n';
 
 // The literals of a wish so far: the place after them, how many, their codes and then zeros, and whether all are of switches on the sheet.
 #[derive(Clone, Copy)]
