@@ -56,7 +56,8 @@ fn goes_deeper(b: Option<u8>) -> bool
     b == Some(BANG) || b == Some(OPEN)
 }
 
-// Nots and brackets together are at most `depth` deep; so many gates stand before it, here and below.
+// Nots and brackets together are at most `depth` deep; so many gates stand before it, here and below. (Points, gates and words are no
+// struct: the number of gates grows from operand to operand, and of a struct that is lent each promise would say too that the points stay.)
 #[cycle(and_level_factor_or_level)]
 fn factor(
     s: &[u8],
