@@ -8,7 +8,7 @@ use Rattle.scope.specs.Causes.{Test}
 use Rattle.scope.specs.Meaning.{all}
 use Rattle.scope.specs.Text.{bytes}
 use Rattle.scope.specs.Typed.{Formula, Typed, typed, most_text, wish_tests, line_tests, sheet_of}
-use Rattle.scope.specs.Parsing.{State, word, digits, literal, start, wish_line, wish, ended, add_wish, number_done, move, step, at_end, walk}
+use Rattle.scope.specs.Parsing.{State, word, literal, start, wish_line, wish, ended, add_wish, number_done, move, step, at_end, walk}
 use Rattle.scope.proofs.Laws.Tests.{clash, both}
 use Rattle.scope.proofs.Laws.Lists.{length_snoc}
 use Rattle.words.specs.Entries.{WishPut, literal_of}

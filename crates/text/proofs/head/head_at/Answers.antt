@@ -1,11 +1,8 @@
 -- Its parts are read in turn: where one is stuck no legal text goes on, and after the last the two numbers are told.
 use Rattle.std.proofs.Common.{arith}
 use Rattle.scanner.specs.Laws.Tokens.{handed_on}
-use Rattle.text.specs.Laws.Lines.{switches_bad, faults_within, faults_bad, feed_within, feed_bad, head_read}
+use Rattle.text.specs.Laws.Lines.{faults_within, faults_bad, feed_within, feed_bad, head_read}
 use Rattle.text.proofs.head.head_at.Goals as goal
-
-pub returns-in_err-switches : goal.returns-in_err-switches
-returns-in_err-switches c = rw (handed_on _ c.from_residual.ensures.1) (switches_bad c.in_err-switches.ensures)
 
 pub named_at-requires-2 : goal.named_at-requires-2
 named_at-requires-2 c = (faults_within c.in_ok-switches.ensures, omega arith)

@@ -1,14 +1,11 @@
 -- The word, the formula and the line feed are read in turn: where one is stuck no legal text goes on, and after the last one more rule
 -- is told.
 use Rattle.scanner.specs.Laws.Tokens.{handed_on}
-use Rattle.text.specs.Laws.Lines.{rule_word_bad, rule_asked, rule_bad, fed_stuck, rule_good}
+use Rattle.text.specs.Laws.Lines.{rule_word_bad, rule_bad, fed_stuck, rule_good}
 use Rattle.text.proofs.rule.rule_line.Goals as goal
 
 pub returns-in_err-at : goal.returns-in_err-at
 returns-in_err-at c = rw (handed_on _ c.from_residual.ensures.1) (rule_word_bad c.requires.0 c.requires.1 c.in_err-at.ensures, tt)
-
-pub or_level-requires : goal.or_level-requires
-or_level-requires c = rule_asked c.requires.0 c.requires.1 c.in_ok-at.ensures
 
 pub returns-in_err-formula : goal.returns-in_err-formula
 returns-in_err-formula c = rw (handed_on _ c.from_residual-in_err-formula.ensures.1) (rule_bad c.requires.0 c.requires.1 c.in_ok-at.ensures c.in_err-formula.ensures.0, tt)
