@@ -58,9 +58,14 @@ pub record Good (l : Level) (s : List ℕ) (depth : ℕ) (c : Points) (g at : �
   pub built : Built c g at formula p
   pub filled : Filled (gates_of c.switches c.faults g formula) before after
 
+-- nothing was read: no legal text goes on at n
+pub record Halted (l : Level) (s : List ℕ) (depth at n : ℕ) : Type 0 where
+  pub within : n ≤ length s
+  pub bad : LevelStuck l s depth at n
+
 abbrev pub LevelRead : (l : Level) (s : List ℕ) (depth : ℕ) (c : Points) (g at : ℕ) → Result Parsed Stuck → (before after : List ℕ) → Type 0
 LevelRead l s depth c g at (Ok p) u v = Good l s depth c g at p u v
-LevelRead l s depth c g at (Err e) u v = LevelStuck l s depth at e.0
+LevelRead l s depth c g at (Err e) u v = Halted l s depth at e.0
 
 -- a single number, with so many points before its own
 pub record NumberIs (s : List ℕ) (at before most g : ℕ) (p : Parsed) : Type 0 where

@@ -8,7 +8,7 @@ ghost use Rattle.formula.specs.Formulas.{Asked, Numbered, AtomRead, LevelRead, E
 use crate::parsed::Parsed;
 use crate::points::Points;
 use crate::sign::{closed, goes_on, operand_at};
-use scanner::reader::{look, skip};
+use scanner::reader::{BANG, look, skip};
 use scanner::token::{Stuck, number_at};
 use words::Words;
 use words::gate::Gate;
@@ -16,8 +16,6 @@ use words::gate::Gate;
 const SWITCH: u8 = b's';
 
 const FAULT: u8 = b'f';
-
-const BANG: u8 = b'!';
 
 const OPEN: u8 = b'(';
 
@@ -58,7 +56,8 @@ fn goes_deeper(b: Option<u8>) -> bool
     b == Some(BANG) || b == Some(OPEN)
 }
 
-// Nots and brackets together are at most `depth` deep; so many gates stand before it, here and below.
+// Nots and brackets together are at most `depth` deep; so many gates stand before it, here and below. (Points, gates and words are no
+// struct: the number of gates grows from operand to operand, and of a struct that is lent each promise would say too that the points stay.)
 #[cycle(and_level_factor_or_level)]
 fn factor(
     s: &[u8],

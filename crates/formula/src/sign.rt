@@ -4,12 +4,10 @@ ghost use Rattle.scanner.specs.Look as place;
 ghost use Rattle.formula.specs.Formulas.{sign_at, operand_at, ended_of, closed_of, fed_of};
 
 use crate::parsed::Parsed;
-use scanner::reader::{next_is, skip};
+use scanner::reader::{FEED, next_is, skip};
 use scanner::token::Stuck;
 
 const CLOSE: u8 = b')';
-
-const FEED: u8 = b'\n';
 
 // Whether this sign comes next.
 pub(crate) fn goes_on(s: &[u8], at: usize, sign: u8) -> bool

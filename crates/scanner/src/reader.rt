@@ -1,5 +1,6 @@
-// The reader of typed texts: it stands at a place, and moves on past what is asked for there. Its methods are thin: the work is in
-// `byte_at` and `same_bytes`, which take plain slices, and callers use `look`, `past_byte`, `past_word` and `skip`, which take them too.
+// The reader of typed texts: it stands at a place, and moves on past what is asked for there. The papers ask for this struct and for thin
+// functions over a plain slice and a number: the work is in `byte_at` and `same_bytes`, and callers use `look`, `past_byte`, `past_word`
+// and `skip`. So a text and a place are two parameters here and in the crates above, and that the place is in the text is asked for there.
 ghost use Rattle.std.specs.Prelude.{[], ◌∷◌, ◌≡◌, ◌+◌, ◌<◌, ◌^◌, eqb};
 ghost use Rattle.scanner.specs.Look as specs;
 
@@ -10,7 +11,12 @@ pub struct Reader<'a> {
     pub at: usize,
 }
 
-const SPACE: u8 = b' ';
+// bytes that formulas and wishes are asked for too
+pub const SPACE: u8 = b' ';
+
+pub const BANG: u8 = b'!';
+
+pub const FEED: u8 = b'\n';
 
 // What stands at a place of a text.
 fn byte_at(text: &[u8], at: usize) -> Option<u8>

@@ -4,7 +4,8 @@ use Prim.Native.Char.{code}
 use Rattle.scope.specs.Sheet.{Clause, most_wishes, most_literals}
 use Rattle.scope.specs.Meaning.{all}
 use Rattle.scope.specs.Typed.{Formula, Typed, typed, most_number}
-use Rattle.scope.specs.Parsing.{wish_line, wish, ended}
+use Rattle.scope.specs.Text.{bytes}
+use Rattle.scope.specs.Parsing.{State, word, digits, literal, wish_line, wish, ended}
 use Rattle.scope.specs.Words.{wish_words}
 use Rattle.words.specs.Entries.{literal_of}
 use Rattle.words.specs.declared.literal.Literal.{Literal}
@@ -18,14 +19,21 @@ use Rattle.text.specs.Lines.{FirstWith, Told, LinesRead}
 
 -- ---- literals
 
--- one literal from `at` on, which ends before n
-pub record LiteralGood (s : List ℕ) (at : ℕ) (x : Literal) (n : ℕ) : Type 0 where
-  pub few : x.switch ≤ most_number
-  pub came : (v : Typed) (xs : Clause) → Came s (wish v xs) at (ended v (xs ++ literal_of x ∷ [])) n
+-- where a literal begins, and where its name does
+abbrev pub one_literal : Typed → Clause → State
+one_literal v xs = wish v xs
 
-abbrev pub LiteralRead : List ℕ → (at : ℕ) → Result (Literal × ℕ) Stuck → Type 0
-LiteralRead s at (Ok p) = LiteralGood s at p.0 p.1
-LiteralRead s at (Err e) = (v : Typed) (xs : Clause) → StuckAt s (wish v xs) at e.0
+abbrev pub named : Bool → Typed → Clause → State
+named minus v xs = word (bytes "s") (digits (literal v xs minus))
+
+-- one literal from `at` on, which ends before n
+pub record LiteralGood (From : Typed → Clause → State) (s : List ℕ) (at : ℕ) (x : Literal) (n : ℕ) : Type 0 where
+  pub few : x.switch ≤ most_number
+  pub came : (v : Typed) (xs : Clause) → Came s (From v xs) at (ended v (xs ++ literal_of x ∷ [])) n
+
+abbrev pub LiteralRead : (From : Typed → Clause → State) (s : List ℕ) (at : ℕ) → Result (Literal × ℕ) Stuck → Type 0
+LiteralRead From s at (Ok p) = LiteralGood From s at p.0 p.1
+LiteralRead From s at (Err e) = (v : Typed) (xs : Clause) → StuckAt s (From v xs) at e.0
 
 -- w holds the codes of these literals, on a sheet with a switches
 pub record Codes (a : ℕ) (w : Literals) (xs : Clause) : Type 0 where
@@ -42,12 +50,12 @@ pub record WithLiteral (a : ℕ) (w : Literals) (x : Literal) (n : ℕ) (r : Lit
 -- one more literal is read from `at` on
 pub record More (s : List ℕ) (a at : ℕ) (w r : Literals) : Type 0 where
   pub literal : Literal
-  pub good : LiteralGood s at literal r.at
+  pub good : LiteralGood one_literal s at literal r.at
   pub one : WithLiteral a w literal r.at r
 
 abbrev pub OneMore : List ℕ → (a at : ℕ) → Literals → Result Literals Stuck → Type 0
 OneMore s a at w (Ok r) = More s a at w r
-OneMore s a at w (Err e) = (v : Typed) (xs : Clause) → StuckAt s (wish v xs) at e.0
+OneMore s a at w (Err e) = (v : Typed) (xs : Clause) → StuckAt s (one_literal v xs) at e.0
 
 unfoldable pub more_literals : List ℕ → Literals → Bool
 more_literals s w = ltb w.count most_literals && eqb (look s w.at) (code " ")

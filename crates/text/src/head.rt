@@ -27,7 +27,7 @@ pub fn head_at(s: &[u8]) -> Result<Head, Stuck>
     Ok(Head { at, points })
 }
 
-// As lines, with their faults.
+// As lines, with their faults: it tests, so it is no `From`.
 pub fn head_lines(h: Head) -> Lines
     ensures { HeadLines h result }
 {

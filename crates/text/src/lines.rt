@@ -42,7 +42,8 @@ fn tests(room: bool, known: bool) -> Result<(), Refusal>
 }
 
 impl Lines {
-    // The first fault, also of one more rule or wish: whether there was room for it, and whether its numbers are on the sheet.
+    // The first fault, also of one more rule or wish: whether there was room for it, and whether its numbers are on the sheet. (That the
+    // figures are small is no invariant of the lines, as it would have to be shown of one more before the text says so.)
     pub fn fault_with(self, room: bool, known: bool) -> Option<Fault>
         requires { self.rules + self.wishes ≤ most_text }
         ensures { FirstWith self.fault room known (self.rules + self.wishes + 3) result }

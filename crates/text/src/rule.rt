@@ -30,12 +30,14 @@ fn with_rule(l: Lines, p: Parsed) -> Lines
         at: p.at,
         gates: p.gates,
         rules: l.rules + 1,
-        wishes: l.wishes,
         fault: l.fault_with(room, p.known),
+        ..l
     }
 }
 
-// One more line, which begins as a rule does.
+// One more line, which begins as a rule does. (No twin of `wish_line`, as what is read after the word and what is put differ. What text,
+// lines and words say together is asked for by both, and by the two loops: no value holds all three, as the words are lent. Nor do the
+// points go into one struct with them, as in `formula::level`.)
 fn rule_line(s: &[u8], l: Lines, c: Points, words: &mut Words) -> Result<Lines, Stuck>
     requires { RulesTold s.now c l words.old × (place.look s.now l.at ≡ rule_letter) }
     ensures { RulesRead s.now c result words.new × Later l.at result }

@@ -4,11 +4,11 @@ ghost use Rattle.scope.specs.Sheet.{most_literals};
 ghost use Rattle.scope.specs.Typed.{most_text, most_number};
 ghost use Rattle.scanner.specs.Look as place;
 ghost use Rattle.text.specs.Lines.{wish_letter, NoMore, Later};
-ghost use Rattle.text.specs.Wishes.{WithLiteral, LiteralRead, OneMore, LiteralsRead, more_literals, WishesTold, WishesRead, WithWish};
+ghost use Rattle.text.specs.Wishes.{WithLiteral, one_literal, LiteralRead, OneMore, LiteralsRead, more_literals, WishesTold, WishesRead, WithWish};
 
 use crate::lines::Lines;
 use formula::points::Points;
-use scanner::reader::{next_is, past_byte};
+use scanner::reader::{BANG, FEED, SPACE, next_is, past_byte};
 use scanner::token::{Stuck, named_at, word_at};
 use words::Words;
 use words::limit::{MOST_LITERALS, MOST_WISHES};
@@ -17,13 +17,8 @@ use words::wish::{WISH_SIZE, Wish, put_wish};
 
 const WISH: u8 = b'w';
 
-const BANG: u8 = b'!';
-
-const SPACE: u8 = b' ';
-
-const FEED: u8 = b'\n';
-
 // The literals of a wish so far: the place after them, how many, their codes and then zeros, and whether all are of switches on the sheet.
+// (An array of which so many count, as there is no heap.)
 #[derive(Clone, Copy)]
 pub struct Literals {
     pub at: usize,
@@ -35,7 +30,7 @@ pub struct Literals {
 // One literal, which begins at `at`, and the place after it.
 fn literal_at(s: &[u8], at: usize) -> Result<(Literal, usize), Stuck>
     requires { at ≤ length s.now }
-    ensures { LiteralRead s.now at result }
+    ensures { LiteralRead one_literal s.now at result }
 {
     let name = past_byte(s, at, BANG);
     let k = named_at(s, name, b"s", false)?;
@@ -102,10 +97,9 @@ fn with_wish(l: Lines, w: Literals) -> Lines
 {
     Lines {
         at: w.at + 1,
-        gates: l.gates,
-        rules: l.rules,
         wishes: l.wishes + 1,
         fault: l.fault_with(l.wishes < MOST_WISHES, w.known),
+        ..l
     }
 }
 

@@ -1,9 +1,7 @@
 -- What the steps over a factor give: a not, a bracket, or a single number. Assumes nothing.
-use Rattle.std.specs.Prelude.{ℕ, ◌+◌, ◌-◌, ◌≤◌, ◌<◌, Bool, true, false, cond, ◌||◌, Result, Ok, Err, List, [], ◌∷◌, ◌++◌, ◌≢◌, ◌⊎◌, ◌≡◌, eqb, leb, length}
+use Rattle.std.specs.Option.{option_eq}
+use Rattle.std.proofs.Common.{Option, Some, ℕ, ◌+◌, ◌-◌, ◌≤◌, ◌<◌, Bool, true, false, cond, ◌||◌, Result, Ok, Err, List, [], ◌∷◌, ◌++◌, ◌≢◌, ◌⊎◌, ◌≡◌, eqb, leb, length, arith, append_assoc, append-nil, inl, inr, ⊎_elim, sym, ap, subst, ◌∙◌, eqb-true, refl}
 use Prim.Native.Char.{code}
-use native.Mathlib.Omega.{arith}
-use Rattle.std.proofs.Common.{append_assoc, append-nil, inl, inr, ⊎_elim, sym, ap, subst, ◌∙◌, eqb-true}
-use Rattle.std.proofs.Math.Path.{refl}
 use Rattle.std.proofs.lemmas.Bool.{eqb-false}
 use Rattle.scope.specs.Sheet.{Sheet, sheet, Gate}
 use Rattle.scope.specs.Typed.{Formula, typed, ors, factor, most_nested, operators, point, gates_of, known}
@@ -11,14 +9,14 @@ use Rattle.scope.specs.Parsing as parsing
 use Rattle.scope.specs.Parsing.{Around, line, Slot, digits, zero_ok, number_done, bracket, first, head, bang, nested, operand, after, operand_done}
 use Rattle.scope.proofs.Laws.Tests.{clash}
 use Rattle.words.specs.Entries.{Kept}
-use Rattle.scanner.specs.Look.{end, look, skip}
+use Rattle.scanner.specs.Look.{end, byte_of, look, skip}
 use Rattle.scanner.specs.Tokens.{Came}
-use Rattle.formula.specs.Formulas.{Built, OrsCome, LevelStuck, Good, LevelRead, Numbered, AtomRead, Asked, goes_deeper, not_sign, open_sign, and_sign, or_sign, sign_at, gated, Gated, moved, ended_of, closed_of}
+use Rattle.formula.specs.Formulas.{Built, OrsCome, Halted, Good, LevelRead, Numbered, AtomRead, Asked, goes_deeper, not_sign, open_sign, and_sign, or_sign, sign_at, gated, Gated, moved, ended_of, closed_of}
 use Rattle.formula.specs.declared.parsed.Parsed.{Parsed}
 use Rattle.formula.specs.declared.points.Points.{Points}
 use Rattle.scanner.specs.declared.token.Stuck.{Stuck}
 use Rattle.scanner.specs.declared.token.Token.{Token}
-use Rattle.scanner.specs.Laws.Walks.{stands, came_came, came_stuck}
+use Rattle.scanner.specs.Laws.Walks.{byte_of_eq, stands, came_came, came_stuck}
 use Rattle.formula.specs.Laws.Signs.{skip_least, skip_within, close_walk, close_stuck, not_walk, bracket_walk, not_deep, bracket_deep, switch_walk, fault_walk, operand_stuck}
 use Rattle.formula.specs.Laws.Gates.{built_few}
 
@@ -39,6 +37,17 @@ deeper_open b e f = ⊎_elim (λ n. absurd (f n)) (λ o. o) (deeper_is b e)
 pub deeper_byte : (b : ℕ) → goes_deeper b ≡ true → b < end
 deeper_byte b e = ⊎_elim (λ n. omega arith) (λ o. omega arith) (deeper_is b e)
 
+-- what the code gets from a place and tests
+module _ (s : List ℕ) (at : ℕ) (o : Option ℕ) (is : byte_of o ≡ look s at) where
+  pub deeper_here : {t : Bool} → t ≡ goes_deeper (byte_of o) → t ≡ true → goes_deeper (look s at) ≡ true
+  deeper_here g e = rw is at (sym g ∙ e)
+
+  pub not_here : true ≡ option_eq eqb o (Some not_sign) → look s at ≡ not_sign
+  not_here g = eqb-true (look s at) not_sign (rw is at (sym (g ∙ byte_of_eq o not_sign (omega arith))))
+
+  pub open_here : false ≡ option_eq eqb o (Some not_sign) → goes_deeper (look s at) ≡ true → look s at ≡ open_sign
+  open_here g d = deeper_open (look s at) d (eqb-false (look s at) not_sign (rw is at (sym (g ∙ byte_of_eq o not_sign (omega arith)))))
+
 module _ {s : List ℕ} {at : ℕ} (deeper : goes_deeper (look s at) ≡ true) where
   -- what is asked of the place after it
   pub inner_asked : {g : ℕ} → Asked s g at → Asked s g (skip s (at + 1))
@@ -49,8 +58,8 @@ module _ {s : List ℕ} {at : ℕ} (deeper : goes_deeper (look s at) ≡ true) w
   }
 
   -- it would be too deep
-  pub too_deep : {depth : ℕ} → at ≤ length s → depth ≡ 0 → LevelStuck factor s depth at at
-  too_deep within d o n = ⊎_elim (not_deep s o at (omega arith) within) (bracket_deep s o at (omega arith) within) (deeper_is (look s at) deeper)
+  pub too_deep : {depth : ℕ} → at ≤ length s → depth ≡ 0 → Halted factor s depth at at
+  too_deep within d = record { within = within; bad = λ o n. ⊎_elim (not_deep s o at (omega arith) within) (bracket_deep s o at (omega arith) within) (deeper_is (look s at) deeper) }
 
 module _ {s : List ℕ} {depth : ℕ} (at : ℕ) (deep : depth ≢ 0) where
   -- a factor after `!`
@@ -59,8 +68,8 @@ module _ {s : List ℕ} {depth : ℕ} (at : ℕ) (deep : depth ≢ 0) where
     unfolding nested
     after_not o n = (not_walk s o at (omega arith) e, omega arith)
 
-    pub not_stuck : {n : ℕ} → LevelStuck factor s (depth - 1) (skip s (at + 1)) n → LevelStuck factor s depth at n
-    not_stuck k o n = let (to, under) = after_not o n in came_stuck to (k (bang o) under)
+    pub not_stuck : {n : ℕ} → Halted factor s (depth - 1) (skip s (at + 1)) n → Halted factor s depth at n
+    not_stuck k = record { within = k.within; bad = λ o n. let (to, under) = after_not o n in came_stuck to (k.bad (bang o) under) }
 
     pub not_read : {c : Points} {g : ℕ} {p r : Parsed} {u v w : List ℕ} → Asked s g at → Good factor s (depth - 1) c g (skip s (at + 1)) p u v → Gated c (Gate.not p.point) p.known p r v w → Good factor s depth c g at r u w
     unfolding nested operand_done operators known point gates_of
@@ -90,8 +99,8 @@ module _ {s : List ℕ} {depth : ℕ} (at : ℕ) (deep : depth ≢ 0) where
     unfolding nested
     after_open o n = (bracket_walk s o at (omega arith) e, omega arith)
 
-    pub bracket_stuck : {n : ℕ} → LevelStuck ors s (depth - 1) (skip s (at + 1)) n → LevelStuck factor s depth at n
-    bracket_stuck k o n = let (to, under) = after_open o n in came_stuck to (k (bracket o) under)
+    pub bracket_stuck : {n : ℕ} → Halted ors s (depth - 1) (skip s (at + 1)) n → Halted factor s depth at n
+    bracket_stuck k = record { within = k.within; bad = λ o n. let (to, under) = after_open o n in came_stuck to (k.bad (bracket o) under) }
 
     module _ {c : Points} {g : ℕ} {p : Parsed} {u v : List ℕ} (i : Good ors s (depth - 1) c g (skip s (at + 1)) p u v) where
       -- the formula, and what it is a part of where it ends
@@ -113,7 +122,7 @@ module _ {s : List ℕ} {depth : ℕ} (at : ℕ) (deep : depth ≢ 0) where
             built = record { ahead = omega (arith, i.built.ahead, skip_least s p.at, skip_least s (at + 1)); gates = i.built.gates; known = i.built.known; point = i.built.point };
             filled = i.filled;
           }
-      shut false d no-and no_or = λ o n. came_stuck (to_end o n) (close_stuck s (read o n).inner (read o n).last p.at o (read o n).around i.within no-and no_or (eqb-false (sign_at s p.at) (code ")") d))
+      shut false d no-and no_or = record { within = skip_within s p.at i.within; bad = λ o n. came_stuck (to_end o n) (close_stuck s (read o n).inner (read o n).last p.at o (read o n).around i.within no-and no_or (eqb-false (sign_at s p.at) (code ")") d)) }
 
       pub bracket_read : sign_at s p.at ≢ and_sign → sign_at s p.at ≢ or_sign → LevelRead factor s depth c g at (closed_of s p) u v
       unfolding ended_of
@@ -125,16 +134,19 @@ neither : (a b : Bool) → (a || b) ≡ false → (a ≡ false) × (b ≡ false)
 neither true b e = clash refl e
 neither false b e = (refl, e)
 
+-- any place of a factor
+abbrev any : Around factor
+any = head (first (line (typed 0 0 [] [])))
+
 module _ {s : List ℕ} (c : Points) {g at : ℕ} (asked : Asked s g at) where
   -- a switch or a fault: the walk goes on with the number of its slot, and no gate is added
   atom_read : (before most : ℕ) (x : ℕ → Formula) (slot : Around factor → Slot) → ((k : Around factor) → zero_ok (slot k) ≡ false) → ((k : Around factor) (n : ℕ) → number_done (slot k) n ≡ operand_done k (x n)) → ((k : Around factor) → Came s (operand k) at (digits (slot k)) (at + 1))
       → ((n : ℕ) → (operators (x n) ≡ 0) × (gates_of c.switches c.faults g (x n) ≡ []) × (point c.switches c.faults g (x n) ≡ before + n) × (known c.switches c.faults (x n) ≡ leb n most))
       → (r : Result Parsed Stuck) → Numbered s (at + 1) before most g r → AtomRead s c g at r
-  atom_read before most x slot none done to single (Err e) h depth u = λ k m. came_stuck (to k) (h (slot k) (none k))
+  atom_read before most x slot none done to single (Err e) h depth u = record { within = (h (slot any) (none any)).within; bad = λ k m. came_stuck (to k) (h (slot k) (none k)) }
   atom_read before most x slot none done to single (Ok p) h depth u =
       let n : Token = h.number in
       let (no-operators, no_gates, point_is, known_is) = single n.value in
-      let any : Around factor = head (first (line (typed 0 0 [] []))) in
       let l : at + 1 < n.at = (h.read.came (slot any) (none any)).ahead in
       rw h.is record {
         formula = x n.value;
@@ -158,4 +170,4 @@ module _ {s : List ℕ} (c : Points) {g at : ℕ} (asked : Asked s g at) where
   unfolding goes_deeper
   no_atom p q e depth u =
       let (v, w) = neither (eqb (look s at) not_sign) (eqb (look s at) open_sign) e in
-      λ k n. operand_stuck s k at asked.within p q (eqb-false (look s at) not_sign v) (eqb-false (look s at) open_sign w)
+      record { within = asked.within; bad = λ k n. operand_stuck s k at asked.within p q (eqb-false (look s at) not_sign v) (eqb-false (look s at) open_sign w) }

@@ -1,6 +1,5 @@
 -- What was read of a formula with one operator more: its gate comes after those of its operands. Assumes nothing.
-use Rattle.std.specs.Prelude.{ℕ, suc, ◌+◌, ◌≤◌, ◌<◌, ◌&&◌, List, [], ◌∷◌, ◌++◌, ◌≡◌, refl, length}
-use Rattle.std.proofs.Common.{arith, append_assoc, sym, ap, ap₂, subst, ◌∙◌}
+use Rattle.std.proofs.Common.{ℕ, suc, ◌+◌, ◌≤◌, ◌<◌, ◌&&◌, List, [], ◌∷◌, ◌++◌, ◌≡◌, refl, length, arith, append_assoc, sym, ap, ap₂, subst, ◌∙◌}
 use Rattle.scope.specs.Sheet.{Sheet, sheet, Gate}
 use Rattle.scope.specs.Typed.{Formula, Level, most_text, operators, point, gates_of, known}
 use Rattle.words.specs.Entries.{Kept, GatePut}

@@ -1,14 +1,11 @@
 -- What the steps over `&` and over `|` give is put together turn by turn. Assumes nothing.
-use Prim.Native.Nat.{ℕ, ◌+◌, ◌-◌, ◌<◌}
-use Rattle.std.proofs.Common.{arith, subst, ◌∙◌}
-use Rattle.std.specs.Prelude.{◌&&◌, Bool, List, ◌≡◌, length}
-use Rattle.std.proofs.Math.Path.{refl, ap}
+use Rattle.std.proofs.Common.{ℕ, ◌+◌, ◌-◌, ◌<◌, arith, subst, ◌∙◌, Ok, eqb, eqb-true, true, ◌&&◌, Bool, List, ◌≡◌, length, refl, ap}
 use Rattle.scope.specs.Sheet.{Gate}
 use Rattle.scope.specs.Typed.{Level, ors, ands, factor, most_nested, operators}
 use Rattle.scope.specs.Parsing.{Around, first, bar, head, amp, nested, operand, after, operand_done, joined_or, outside}
 use Rattle.scanner.specs.Look.{end, skip}
 use Rattle.scanner.specs.Tokens.{Came}
-use Rattle.formula.specs.Formulas.{OrsCome, LevelStuck, Good, Asked, and_sign, or_sign, sign_at, operand_at, Gated}
+use Rattle.formula.specs.Formulas.{OrsCome, Halted, Good, Asked, and_sign, or_sign, sign_at, operand_at, Ends, Gated}
 use Rattle.formula.specs.declared.parsed.Parsed.{Parsed}
 use Rattle.formula.specs.declared.points.Points.{Points}
 use Rattle.scanner.specs.Laws.Walks.{stands, came_came, came_stuck}
@@ -16,6 +13,10 @@ use Rattle.formula.specs.Laws.Signs.{skip_least, skip_within, and_walk, or_walk}
 use Rattle.formula.specs.Laws.Gates.{and_joint, or_joint, level_as, level_more}
 
 -- ---- the operand after a sign
+
+-- the sign is a byte, so it stands in the text
+pub sign_stands : (s : List ℕ) (n b : ℕ) → b < end → eqb (sign_at s n) b ≡ true → sign_at s n < end
+sign_stands s n b byte more = omega (arith, eqb-true (sign_at s n) b more)
 
 operand_later : (s : List ℕ) (n : ℕ) → n < operand_at s n
 operand_later s n = omega (arith, skip_least s n, skip_least s (skip s n + 1))
@@ -38,16 +39,20 @@ less_left {s = s} p {q = q} h k =
     let n : operators h.formula + operand_at s p.at < q.at = h.built.ahead in
     rw k.is (omega (arith, operand_later s p.at, h.within))
 
+-- what is joined ends before the sign that the second operand ends before
+pub turn_ends : (s : List ℕ) {c : Points} {gate : Gate} {known : Bool} {q r : Parsed} {u v : List ℕ} → Gated c gate known q r u v → (b : ℕ) → Ends s b (Ok q) → Ends s b (Ok r)
+turn_ends s k b h = rw k.is h
+
 -- ---- the two levels
 
 -- they are stuck as what they begin with
-pub ands_stuck : {s : List ℕ} (depth : ℕ) {at n : ℕ} → LevelStuck factor s depth at n → LevelStuck ands s depth at n
+pub ands_stuck : {s : List ℕ} (depth : ℕ) {at n : ℕ} → Halted factor s depth at n → Halted ands s depth at n
 unfolding nested
-ands_stuck depth k o = k (head o)
+ands_stuck depth k = record { within = k.within; bad = λ o. k.bad (head o) }
 
-pub ors_stuck : {s : List ℕ} (depth : ℕ) {at n : ℕ} → LevelStuck ands s depth at n → LevelStuck ors s depth at n
+pub ors_stuck : {s : List ℕ} (depth : ℕ) {at n : ℕ} → Halted ands s depth at n → Halted ors s depth at n
 unfolding nested
-ors_stuck depth k o = k (first o)
+ors_stuck depth k = record { within = k.within; bad = λ o. k.bad (first o) }
 
 module _ {s : List ℕ} {depth : ℕ} {c : Points} {g at : ℕ} where
   -- a factor is the first of those joined by `&`
@@ -69,9 +74,9 @@ module _ {s : List ℕ} {depth : ℕ} {c : Points} {g at : ℕ} where
     unfolding nested operand_done
     ands_more asked i k = level_more and_joint asked h (operand_later s p.at) i k (λ o n. came_came (to_factor o n) (i.came (amp h.formula o) n))
 
-    pub ands_halt : {n : ℕ} → LevelStuck factor s depth (operand_at s p.at) n → LevelStuck ands s depth at n
+    pub ands_halt : {n : ℕ} → Halted factor s depth (operand_at s p.at) n → Halted ands s depth at n
     unfolding nested
-    ands_halt k o n = came_stuck (to_factor o n) (k (amp h.formula o) n)
+    ands_halt k = record { within = k.within; bad = λ o n. came_stuck (to_factor o n) (k.bad (amp h.formula o) n) }
 
   -- one more after `|`
   module _ {p : Parsed} {u v : List ℕ} (h : Good ors s depth c g at p u v) (sign : sign_at s p.at ≡ or_sign) where
@@ -85,6 +90,6 @@ module _ {s : List ℕ} {depth : ℕ} {c : Points} {g at : ℕ} where
     unfolding nested
     ors_more asked i k = level_more or_joint asked h (operand_later s p.at) i k (λ o n. record { inner = bar h.formula o; last = i.formula; around = refl; whole = refl; came = came_came (to_ands o n) (i.came (bar h.formula o) n) })
 
-    pub ors_halt : {n : ℕ} → LevelStuck ands s depth (operand_at s p.at) n → LevelStuck ors s depth at n
+    pub ors_halt : {n : ℕ} → Halted ands s depth (operand_at s p.at) n → Halted ors s depth at n
     unfolding nested
-    ors_halt k o n = came_stuck (to_ands o n) (k (bar h.formula o) n)
+    ors_halt k = record { within = k.within; bad = λ o n. came_stuck (to_ands o n) (k.bad (bar h.formula o) n) }

@@ -1,12 +1,8 @@
 -- How a walk goes on at the signs of a formula. Assumes nothing.
-use Rattle.std.specs.Prelude.{ℕ, ◌+◌, ◌≤◌, ◌<◌, Bool, List, ◌≢◌, ◌≡◌, length, drop}
+use Rattle.std.proofs.Common.{ℕ, ◌+◌, ◌≤◌, ◌<◌, Bool, List, ◌≢◌, ◌≡◌, length, drop, arith, sym, ◌∙◌, true, false, cond, refl, subst, eqb, lt-ltb, le-ltb, eqb-true, eq-eqb, ne_eqb}
+use Rattle.std.proofs.lemmas.Bool.{eqb-false}
 use Prim.Native.Char.{code}
-use Rattle.std.proofs.Common.{arith, sym, ◌∙◌}
-use Rattle.std.proofs.Math.Bool.{true, false, cond}
 use Rattle.std.proofs.Math.Option.{none, some}
-use Rattle.std.proofs.Math.Path.{refl, subst}
-use Rattle.std.proofs.Math.Dec.{eqb}
-use borrow.Author.Tests.{lt-ltb, le-ltb, eqb-true, eqb-false, eq-eqb, ne_eqb}
 use Rattle.scope.specs.Typed.{Formula, Typed, ands, factor, most_nested}
 use Rattle.scope.specs.Parsing.{Around, line, bracket, first, bar, head, amp, bang, nested, digits, rule_line, spaced, operand, after, sign, add_rule, operand_done, joined_or, outside, closed, fed, nested_more, move, step, at_end, walk}
 use Rattle.scope.specs.Parsing as parsing

@@ -1,19 +1,13 @@
 -- How a walk goes on over words and numbers. Assumes nothing.
-use Prim.Native.Nat.{ℕ, suc, ◌+◌, ◌-◌, ◌*◌, ◌≤◌, ◌<◌}
+use Rattle.std.proofs.Common.{ℕ, suc, ◌+◌, ◌-◌, ◌*◌, ◌≤◌, ◌<◌, arith, IsErrAnd, Some, None, Result, Ok, Err, Bool, true, false, cond, List, [], ◌∷◌, ◌≢◌, ◌≡◌, eqb, drop, refl, ap, ◌∙◌, ne_eqb, length, length-drop, drop-drop}
 use Prim.Native.Char.{code}
-use native.Mathlib.Omega.{arith}
-use Rattle.std.specs.Prelude.{Some, None, Result, Ok, Err, Bool, true, false, cond, List, [], ◌∷◌, ◌≢◌, ◌≡◌, eqb, drop}
 use Rattle.std.proofs.Math.Option.{none, some}
-use Rattle.std.proofs.Math.Path.{refl, ap}
-use Rattle.std.proofs.Common.{◌∙◌, ne_eqb}
-use Rattle.std.proofs.Math.ListN.{length, length-drop}
-use Rattle.std.proofs.Math.Seq.{drop-drop}
 use Rattle.scope.specs.Parsing.{Slot, State, stuck, word, digits, second, number_done, zero_ok, is_digit, move, step, at_end, walk}
 use Rattle.scope.proofs.Laws.Tests.{clash}
 use Rattle.scope.proofs.Laws.Reached.{digit_byte}
 use Rattle.scope.proofs.Laws.Walked.{number_plain}
 use Rattle.scanner.specs.Look.{end, look, digit, shared, standing, past}
-use Rattle.scanner.specs.Tokens.{StuckAt, Came, rest, SlotGood, NumberRead, NamedRead}
+use Rattle.scanner.specs.Tokens.{StuckAt, Came, rest, SlotGood, WordRead, NumberRead, NamedRead}
 use Rattle.scanner.specs.declared.token.Stuck.{Stuck}
 use Rattle.scanner.specs.declared.token.Token.{Token}
 use Rattle.scanner.specs.Laws.Walks.{past_within, came, stops, came_came, came_stuck, alike}
@@ -168,6 +162,17 @@ module _ {s : List ℕ} (zero : Bool) {at : ℕ} where
 
 -- ---- a word and a number
 
-pub named_read : {s : List ℕ} (w : List ℕ) (zero : Bool) {at n : ℕ} → ((st : State) → Came s (word w st) at st n) → (r : Result Token Stuck) → NumberRead s zero n r → NamedRead s w zero at r
-named_read w zero h (Ok t) n = record { came = λ slot z. came_came (h (digits slot)) (n.came slot z); few = n.few }
-named_read w zero h (Err e) n = λ slot z. came_stuck (h (digits slot)) (n slot z)
+module _ {s : List ℕ} (w : List ℕ) (zero : Bool) {at : ℕ} where
+  pub named_bad : {e : Stuck} → WordRead s w at (Err e) → NamedRead s w zero at (Err e)
+  named_bad h slot z = h (digits slot)
+
+  pub named_good : {n : ℕ} → WordRead s w at (Ok n) → (r : Result Token Stuck) → NumberRead s zero n r → NamedRead s w zero at r
+  named_good h (Ok t) n = record { came = λ slot z. came_came (h (digits slot)) (n.came slot z); few = n.few }
+  named_good h (Err e) n = λ slot z. came_stuck (h (digits slot)) (n slot z)
+
+-- ---- the exit of a `?`
+
+-- the failure is handed on as it is
+pub handed_on : {T E : Type 0} {e : E} (r : Result T E) → IsErrAnd r (λ y. y ≡ e) → r ≡ Err e
+handed_on (Ok x) h = absurd h
+handed_on (Err y) h = rw h refl

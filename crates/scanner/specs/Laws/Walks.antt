@@ -1,18 +1,9 @@
 -- How much of a word stands from a place of a text on, and how a walk goes on from a place. Assumes nothing.
-use Rattle.std.specs.Prelude.{ℕ, suc, ◌+◌, ◌-◌, ◌≤◌, ◌<◌, Option, Some, None, Bool, ◌≢◌, ◌≡◌, get_or, drop}
+use Rattle.std.proofs.Common.{ℕ, suc, ◌+◌, ◌-◌, ◌≤◌, ◌<◌, Option, Some, None, Bool, ◌≢◌, ◌≡◌, get_or, drop, add-one, arith, true, false, cond, List, [], ◌∷◌, refl, sym, ap, ◌∙◌, length-drop, drop_of_length-le, drop-cons, length, eqb, lt-ltb, le-ltb, eq-eqb, ne_eqb, eqb-true, ltb-true, ltb-false, Bor}
+use Rattle.std.proofs.lemmas.Bool.{eqb-false}
 use Rattle.std.proofs.Math.Decide.{dec_le}
-use Rattle.std.proofs.Math.Numerals.{add-one}
-use native.Mathlib.Omega.{arith}
-use Rattle.std.proofs.Math.Bool.{true, false, cond}
-use mathlib.Core.List.{List, [], ◌∷◌}
 use Rattle.std.proofs.Math.Option.{none, some}
-use Rattle.std.proofs.Math.Path.{refl}
-use Rattle.std.proofs.Common.{sym, ap, ◌∙◌, length-drop, drop_of_length-le, drop-cons}
-use Rattle.std.proofs.Math.ListN.{length}
-use Rattle.std.proofs.Math.Dec.{eqb}
-use borrow.Author.Tests.{lt-ltb, le-ltb, eq-eqb, ne_eqb, eqb-true, eqb-false, ltb-true, ltb-false}
 use Rattle.scope.specs.Parsing.{State, stuck, step, at_end, go_on, walk}
-use denote.Bor.{Bor}
 use Rattle.std.specs.Slice.{IsItemAt}
 use Rattle.std.specs.Option.{option_eq, option_copied}
 use Rattle.std.proofs.lemmas.Option.{slice_get-get_or, same_Some}

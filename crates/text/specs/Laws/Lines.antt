@@ -1,15 +1,7 @@
 -- What the steps over the head and the rule lines give is put together. Assumes nothing.
-use Prim.Native.Nat.{ℕ, suc, ◌+◌, ◌<◌}
+use Rattle.std.proofs.Common.{ℕ, suc, ◌+◌, ◌-◌, ◌≤◌, ◌<◌, arith, Bool, Option, None, Some, Result, Ok, Err, cond, ◌&&◌, ◌≢◌, ◌≡◌, true, false, List, [], ◌∷◌, ◌++◌, append_assoc, append-nil, refl, sym, ap, ap₂, subst, ◌∙◌, eqb, leb, ltb, length, length-append, eqb-true}
+use Rattle.std.proofs.lemmas.Bool.{eqb-false}
 use Prim.Native.Char.{code}
-use native.Mathlib.Omega.{arith}
-use Rattle.std.specs.Prelude.{Bool, Option, None, Some, Result, Ok, Err, cond, ◌&&◌, ◌≢◌, ◌≡◌}
-use Rattle.std.proofs.Math.Bool.{true, false}
-use mathlib.Core.List.{List, [], ◌∷◌, ◌++◌, append_assoc, append-nil}
-use Rattle.std.proofs.Math.Path.{refl, sym, ap, ap₂}
-use Rattle.std.proofs.Common.{subst, ◌∙◌}
-use Rattle.std.proofs.Math.Dec.{eqb, leb, ltb}
-use Rattle.std.proofs.Math.ListN.{length, length-append}
-use borrow.Author.Tests.{eqb-true, eqb-false}
 use Rattle.std.specs.Option.{option_or, option_map}
 use Rattle.std.specs.Result.{result_err}
 use Rattle.scope.specs.Sheet.{Sheet, sheet, Clause, All, most_switches, most_faults, most_gates, most_rules}
@@ -18,7 +10,7 @@ use Rattle.scope.specs.Causes as causes
 use Rattle.scope.specs.Text.{bytes}
 use Rattle.scope.specs.Typed.{Formula, Typed, typed, ors, most_nested, operators, point, gates_of, all_gates, all_points, known, rule_tests, wish_tests, line_tests, sheet_of}
 use Rattle.scope.specs.Texts.{FirstLine, here, later}
-use Rattle.scope.specs.Parsing.{line, first, head, nested, Slot, zero_ok, State, word, digits, switches, faults, rule_line, operand, after, add_rule, start, number_done, move, step}
+use Rattle.scope.specs.Parsing.{line, first, head, nested, State, word, digits, switches, faults, rule_line, operand, after, add_rule, start, number_done, move, step}
 use Rattle.scope.proofs.Laws.Alls.{all_append}
 use Rattle.scope.proofs.Laws.Lists.{length_snoc}
 use Rattle.scope.proofs.Laws.TypedSheets.{length_gates}
@@ -27,15 +19,15 @@ use Rattle.words.specs.Refusals.{number_of, Tested}
 use Rattle.words.specs.declared.refusal.Refusal.{Refusal}
 use Rattle.words.specs.declared.refusal.Refusal.TheVariants.{Range}
 use Rattle.scanner.specs.Look.{look, skip}
-use Rattle.scanner.specs.Tokens.{StuckAt, Came, SlotGood}
-use Rattle.formula.specs.Formulas.{Good, LevelStuck, OrsCome, Asked, and_sign, or_sign, sign_at, moved, ended_of, fed_of}
+use Rattle.scanner.specs.Tokens.{StuckAt, Came, WordRead, NamedRead}
+use Rattle.formula.specs.Formulas.{Good, Halted, OrsCome, Asked, and_sign, or_sign, sign_at, moved, ended_of, fed_of}
 use Rattle.scanner.specs.Laws.Walks.{stands, came_came, came_stuck, alike_within}
 use Rattle.formula.specs.Laws.Signs.{feed_walk, feed_stuck}
 use Rattle.formula.specs.declared.parsed.Parsed.{Parsed}
 use Rattle.formula.specs.declared.points.Points.{Points}
 use Rattle.scanner.specs.declared.token.Stuck.{Stuck}
 use Rattle.scanner.specs.declared.token.Token.{Token}
-use Rattle.text.specs.Lines.{Faulted, FirstOf, room_tests, rule_letter, RulesTold, WithRule}
+use Rattle.text.specs.Lines.{Faulted, FirstOf, HeadRead, room_tests, rule_letter, RulesTold, WithRule}
 use Rattle.text.specs.declared.lines.Fault.{Fault}
 use Rattle.text.specs.declared.lines.Lines.{Lines}
 
@@ -52,11 +44,19 @@ fault_after {c} (qs ∷ rss) rs (m, ms) f = subst (λ k. FirstLine c k (qs ∷ r
 abbrev pub fault : Refusal → ℕ → Fault
 fault e n = record { refusal = e; line = n }
 
+module _ (rss : List (List Test)) (rs : List Test) where
+  -- an earlier line has a fault
+  pub faulted_before : (f : Fault) → Faulted rss (Some f) → Faulted (rss ++ rs ∷ []) (Some f)
+  faulted_before f h = fault_before (rs ∷ []) h
+
+  pub faulted_here : Faulted rss None → (r : Result (Unit {0}) Refusal) (k : ℕ) → Tested rs r → k ≡ length rss + 1 → Faulted (rss ++ rs ∷ []) (option_map (λ (e : Refusal). fault e k) (result_err r))
+  faulted_here h (Ok u) k g e = all_append Met rss (rs ∷ []) h (g, tt)
+  faulted_here h (Err r) k g e = rw e (fault_after rss rs h g)
+
 -- that of an earlier line, and after none the line's own
 pub first_fault : (f : Option Fault) (r : Result (Unit {0}) Refusal) (n : ℕ) → FirstOf f r n (option_or f (option_map (λ (e : Refusal). fault e n) (result_err r)))
-first_fault (Some f) r n = λ rss rs h g e. fault_before (rs ∷ []) h
-first_fault None (Ok u) n = λ rss rs h g e. all_append Met rss (rs ∷ []) h (g, tt)
-first_fault None (Err r) n = λ rss rs h g e. rw e (fault_after rss rs h g)
+first_fault (Some f) r n = λ rss rs h g e. faulted_before rss rs f h
+first_fault None r n = λ rss rs h g e. faulted_here rss rs h r n g e
 
 -- ---- tests, one before the other
 
@@ -80,21 +80,35 @@ test_met n false ts r u q t h = cc
 -- ---- the first two lines
 
 module _ {s : List ℕ} where
-  pub switches_stuck : {n : ℕ} → ((slot : Slot) → zero_ok slot ≡ true → StuckAt s (word (bytes "switches ") (digits slot)) 0 n) → StuckAt s start 0 n
-  switches_stuck h = h switches refl
+  pub switches_bad : {e : Stuck} → NamedRead s (bytes "switches ") true 0 (Err e) → HeadRead s (Err e)
+  switches_bad h = h switches refl
 
-  module _ {a : Token} (ha : SlotGood (λ slot. word (bytes "switches ") (digits slot)) s true 0 a) where
-    pub to_faults : Came s start 0 (word (bytes "\nfaults ") (digits (faults a.value))) a.at
+  module _ {a : Token} (ha : NamedRead s (bytes "switches ") true 0 (Ok a)) where
+    to_faults : Came s start 0 (word (bytes "\nfaults ") (digits (faults a.value))) a.at
     unfolding number_done
     to_faults = ha.came switches refl
 
-    pub faults_stuck : {n : ℕ} → ((slot : Slot) → zero_ok slot ≡ true → StuckAt s (word (bytes "\nfaults ") (digits slot)) a.at n) → StuckAt s start 0 n
-    faults_stuck h = came_stuck to_faults (h (faults a.value) refl)
+    pub faults_within : a.at ≤ length s
+    faults_within = to_faults.within
 
-    -- past both numbers a line feed is looked for
-    pub to_feed : {f : Token} → SlotGood (λ slot. word (bytes "\nfaults ") (digits slot)) s true a.at f → Came s start 0 (word (bytes "\n") (rule_line (typed a.value f.value [] []))) f.at
-    unfolding number_done
-    to_feed hf = came_came to_faults (hf.came (faults a.value) refl)
+    pub faults_bad : {e : Stuck} → NamedRead s (bytes "\nfaults ") true a.at (Err e) → HeadRead s (Err e)
+    faults_bad h = came_stuck to_faults (h (faults a.value) refl)
+
+    module _ {f : Token} (hf : NamedRead s (bytes "\nfaults ") true a.at (Ok f)) where
+      -- past both numbers a line feed is looked for
+      to_feed : Came s start 0 (word (bytes "\n") (rule_line (typed a.value f.value [] []))) f.at
+      unfolding number_done
+      to_feed = came_came to_faults (hf.came (faults a.value) refl)
+
+      pub feed_within : f.at ≤ length s
+      feed_within = to_feed.within
+
+      pub feed_bad : {e : Stuck} → WordRead s (bytes "\n") f.at (Err e) → HeadRead s (Err e)
+      feed_bad h = came_stuck to_feed (h (rule_line (typed a.value f.value [] [])))
+
+      -- and the head with these two numbers is read
+      pub head_read : {n : ℕ} → WordRead s (bytes "\n") f.at (Ok n) → Came s start 0 (rule_line (typed a.value f.value [] [])) n
+      head_read w = came_came to_feed (w (rule_line (typed a.value f.value [] [])))
 
 -- as lines: no fault stands before them
 pub head_fault : (a f : ℕ) (one two : Option Fault) → FirstOf None (required (leb a most_switches) Range) 1 one → FirstOf one (required (leb f most_faults) Range) 2 two → Faulted (line_tests (typed a f [] [])) two
@@ -153,6 +167,12 @@ module _ (a f : ℕ) where
   unfolding line_tests
   line_count_lem ys ws = omega (arith, length-append (rule_tests a f 0 0 ys) (wish_tests a f 0 ws), rule_count 0 0 ys, wish_count 0 ws)
 
+-- ---- from line to line
+
+-- less is left after one more line, which ends at m
+pub lines_less : (s : List ℕ) (n m : ℕ) → n < m → m ≤ length s → length s - m < length s - n
+lines_less s n m h w = omega arith
+
 -- ---- a rule line
 
 -- where a rule's line begins, its word is looked for
@@ -171,8 +191,11 @@ module _ {s : List ℕ} {c : Points} {l : Lines} {u : List ℕ} (h : RulesTold s
   abbrev formula : State
   formula = operand (head (first (line told)))
 
-  pub to_word : look s l.at ≡ rule_letter → Came s start 0 (word (bytes "rule ") formula) l.at
+  to_word : look s l.at ≡ rule_letter → Came s start 0 (word (bytes "rule ") formula) l.at
   to_word begins = rule_begins begins h.told.came
+
+  pub rule_word_bad : look s l.at ≡ rule_letter → {e : Stuck} → WordRead s (bytes "rule ") l.at (Err e) → StuckAt s start 0 e.0
+  rule_word_bad begins w = came_stuck (to_word begins) (w formula)
 
   module _ (begins : look s l.at ≡ rule_letter) {at : ℕ} (w : (st : State) → Came s (word (bytes "rule ") st) l.at st at) where
     to_formula : Came s start 0 formula at
@@ -182,9 +205,10 @@ module _ {s : List ℕ} {c : Points} {l : Lines} {u : List ℕ} (h : RulesTold s
     pub rule_asked : Asked s l.gates at
     rule_asked = let n : l.at < at = (w formula).ahead in record { within = to_formula.within; short = h.told.short; few = omega (arith, h.told.few) }
 
-    pub rule_stuck : {n : ℕ} → LevelStuck ors s most_nested at n → StuckAt s start 0 n
+    -- a bad line is stuck where its formula is
+    pub rule_bad : {n : ℕ} → Halted ors s most_nested at n → StuckAt s start 0 n
     unfolding nested
-    rule_stuck k = came_stuck to_formula (k (line told) refl)
+    rule_bad k = came_stuck to_formula (k.bad (line told) refl)
 
     module _ {p : Parsed} {v : List ℕ} (hp : Good ors s most_nested c l.gates at p u v) (no-and : sign_at s p.at ≢ and_sign) (no_or : sign_at s p.at ≢ or_sign) where
       -- the formula, and what it is a part of where it ends
@@ -198,6 +222,7 @@ module _ {s : List ℕ} {c : Points} {l : Lines} {u : List ℕ} (h : RulesTold s
       abbrev last : Stuck
       last = record { 0 = skip s p.at }
 
+      -- or where its line feed is missing
       pub fed_stuck : {e : Stuck} → Err e ≡ fed_of s p → StuckAt s start 0 e.0
       unfolding ended_of nested
       fed_stuck {e} = go (eqb (look s p.at) (code "\n")) refl

@@ -1,6 +1,5 @@
 -- What the head, the rules and the wishes of a text say is what is read from it. Assumes nothing.
-use Rattle.std.specs.Prelude.{ℕ, ◌+◌, ◌-◌, ◌≤◌, ◌<◌, None, Some, List, [], ◌≢◌, ◌≡◌, refl, length}
-use Rattle.std.proofs.Common.{add-one, arith, ◌∙◌, drop_of_length-le, le-leb, ne_eqb}
+use Rattle.std.proofs.Common.{ℕ, ◌+◌, ◌-◌, ◌≤◌, ◌<◌, None, Some, List, [], ◌≢◌, ◌≡◌, refl, length, add-one, arith, ◌∙◌, drop_of_length-le, le-leb, ne_eqb}
 use Rattle.scope.specs.Sheet.{Valid}
 use Rattle.scope.specs.Causes.{accepted, refused, started}
 use Rattle.scope.specs.Source.{Form}
@@ -87,11 +86,14 @@ module _ {s : List ℕ} {c : Points} {l : Lines} {u : List ℕ} (h : WishesTold 
 
 -- ---- what is told
 
-pub illegal : {s : List ℕ} {at : ℕ} → length s ≤ most_text → StuckAt s start 0 at → TextRead s (refused 12 (at + 1) 0)
+read_stuck : (s : List ℕ) (at : ℕ) → length s ≤ most_text → StuckAt s start 0 at → read_text s ≡ refused 12 (at + 1) 0
 unfolding read_text
-illegal {s} {at} l h =
+read_stuck s at l h =
     let n : length s - (length s - at) ≡ at = omega (arith, h.within) in
-    (text_read s (refused 12 (at + 1) 0)).0 (rw (le-leb (length s) most_text l, h.walk, n, add-one))
+    rw (le-leb (length s) most_text l, h.walk, n, add-one)
+
+pub illegal : {s : List ℕ} {at : ℕ} → length s ≤ most_text → StuckAt s start 0 at → TextRead s (refused 12 (at + 1) 0)
+illegal {s} {at} l h = (text_read s (refused 12 (at + 1) 0)).0 (read_stuck s at l h)
 
 module _ {s : List ℕ} {l : Lines} {u : List ℕ} (short : length s ≤ most_text) (k : TextTold s l u) where
   pub text_at_fault : {f : Fault} → l.fault ≡ Some f → TextRead s (refused (number_of f.refusal) f.line 0)

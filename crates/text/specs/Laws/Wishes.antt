@@ -1,34 +1,26 @@
 -- What the steps over wish lines give is put together literal by literal and line by line. Assumes nothing.
-use Prim.Native.Nat.{ℕ, suc, ◌+◌, ◌-◌, ◌≤◌, ◌<◌}
+use Rattle.std.proofs.Common.{ℕ, suc, ◌+◌, ◌-◌, ◌≤◌, ◌<◌, add-zero, zero-add, arith, Result, Ok, Err, Bool, ◌&&◌, ◌≢◌, ◌≡◌, leb, drop, replicate, true, false, List, [], ◌∷◌, ◌++◌, append_assoc, refl, ap, ◌∙◌, eqb, ltb, length, ltb-true, eqb-true, lt-ltb, le-ltb, ne_eqb}
 use Prim.Native.Char.{code}
-use Rattle.std.proofs.Math.Nat.{add-zero, zero-add}
 use Rattle.std.proofs.Math.Decide.{dec_le}
-use native.Mathlib.Omega.{arith}
-use Rattle.std.specs.Prelude.{Bool, ◌&&◌, ◌≢◌, ◌≡◌, leb, drop, replicate}
-use Rattle.std.proofs.Math.Bool.{true, false}
-use mathlib.Core.List.{List, [], ◌∷◌, ◌++◌, append_assoc}
 use Rattle.std.proofs.Math.Option.{none}
-use Rattle.std.proofs.Math.Path.{refl, ap}
-use Rattle.std.proofs.Common.{◌∙◌}
-use Rattle.std.proofs.Math.Dec.{eqb, ltb}
-use Rattle.std.proofs.Math.ListN.{length}
-use borrow.Author.Tests.{ltb-true, eqb-true, lt-ltb, le-ltb, ne_eqb}
 use Rattle.scope.specs.Sheet.{Clause, most_wishes, most_literals}
 use Rattle.scope.specs.Causes.{Test}
 use Rattle.scope.specs.Meaning.{all}
 use Rattle.scope.specs.Text.{bytes}
 use Rattle.scope.specs.Typed.{Formula, Typed, typed, most_text, wish_tests, line_tests, sheet_of}
-use Rattle.scope.specs.Parsing.{State, word, digits, literal, start, wish_line, wish, ended, add_wish, number_done, move, step, at_end, walk}
+use Rattle.scope.specs.Parsing.{State, word, literal, start, wish_line, wish, ended, add_wish, number_done, move, step, at_end, walk}
 use Rattle.scope.proofs.Laws.Tests.{clash, both}
 use Rattle.scope.proofs.Laws.Lists.{length_snoc}
 use Rattle.words.specs.Entries.{WishPut, literal_of}
 use Rattle.scanner.specs.Look.{look, past}
-use Rattle.scanner.specs.Tokens.{StuckAt, Came, SlotGood}
+use Rattle.scanner.specs.Tokens.{StuckAt, Came, WordRead, NamedRead}
+use Rattle.scanner.specs.declared.token.Stuck.{Stuck}
+use Rattle.words.specs.declared.literal.Literal.{Literal}
 use Rattle.scanner.specs.Laws.Walks.{stands, past_moved, past_stayed, came, stops, came_came, came_stuck, alike, alike_within}
 use Rattle.formula.specs.declared.points.Points.{Points}
 use Rattle.scanner.specs.declared.token.Token.{Token}
 use Rattle.text.specs.Lines.{wish_letter, room_tests}
-use Rattle.text.specs.Wishes.{LiteralGood, More, more_literals, LiteralsGood, WishesTold, WithWish}
+use Rattle.text.specs.Wishes.{one_literal, named, LiteralRead, More, more_literals, LiteralsGood, LiteralsRead, WishesTold, WithWish}
 use Rattle.text.specs.declared.lines.Lines.{Lines}
 use Rattle.text.specs.declared.wish.Literals.{Literals}
 use Rattle.text.specs.Laws.Lines.{line_count_lem}
@@ -39,51 +31,53 @@ any_typed = typed 0 0 [] []
 
 -- ---- a literal
 
--- with a `!` before its name, or without, the walk comes to the name
-abbrev named : Bool → Typed → Clause → State
-named minus v xs = word (bytes "s") (digits (literal v xs minus))
-
-module _ (s : List ℕ) (at : ℕ) where
-  -- past the `!` the walk is at a name with a minus
-  to_name : look s at ≡ code "!" → (v : Typed) (xs : Clause) → Came s (wish v xs) at (named true v xs) (at + 1)
-  unfolding step move
-  to_name e v xs = came s (wish v xs) (named true v xs) at (omega arith) (rw e)
-
-  -- with no `!` there, a literal and a name without a minus go on alike
-  name_here : look s at ≢ code "!" → (v : Typed) (xs : Clause) → walk (wish v xs) (drop at s) ≡ walk (named false v xs) (drop at s)
-  unfolding step move at_end
-  name_here e v xs = alike s (wish v xs) (named false v xs) at (rw (ne_eqb (look s at) (code "!") e)) refl
-
-  -- the name stands past the `!`, if there is one
-  module _ {n : ℕ} (p : n ≡ past s at (code "!" ∷ [])) (v : Typed) (xs : Clause) where
-    name_came : {to : State} {m : ℕ} → Came s (named (ltb at n) v xs) n to m → Came s (wish v xs) at to m
-    name_came {to} {m} c = go (dec_le n at)
-      where
-        go : Dec (n ≤ at) → Came s (wish v xs) at to m
-        go (yes l) =
-            let k : n ≡ at = omega arith in
-            let d = rw (le-ltb at n l, k) at c in
-            record { ahead = d.ahead; within = d.within; walk = name_here (past_stayed s at (code "!") (omega arith) (omega arith)) v xs ∙ d.walk }
-        go (no l) =
-            let (e, k) = past_moved s at (code "!") (omega arith) (omega arith) in
-            came_came (to_name e v xs) (rw (lt-ltb at n (omega arith), p ∙ k) at c)
-
-    pub name_stuck : {m : ℕ} → StuckAt s (named (ltb at n) v xs) n m → StuckAt s (wish v xs) at m
-    name_stuck {m} c = go (dec_le n at)
-      where
-        go : Dec (n ≤ at) → StuckAt s (wish v xs) at m
-        go (yes l) =
-            let k : n ≡ at = omega arith in
-            let d = rw (le-ltb at n l, k) at c in
-            record { within = d.within; walk = name_here (past_stayed s at (code "!") (omega arith) (omega arith)) v xs ∙ d.walk }
-        go (no l) =
-            let (e, k) = past_moved s at (code "!") (omega arith) (omega arith) in
-            came_stuck (to_name e v xs) (rw (lt-ltb at n (omega arith), p ∙ k) at c)
+-- its name
+module _ (minus : Bool) (s : List ℕ) (at : ℕ) where
+  pub no_literal : {e : Stuck} → NamedRead s (bytes "s") false at (Err e) → LiteralRead (named minus) s at (Err e)
+  no_literal h = λ v xs. h (literal v xs minus) refl
 
   -- its number with its sign is the literal, and the walk comes past it
-  pub literal_good : {n : ℕ} {k : Token} → n ≡ past s at (code "!" ∷ []) → SlotGood (λ slot. word (bytes "s") (digits slot)) s false n k → LiteralGood s at record { minus = ltb at n; switch = k.value } k.at
+  pub named_literal : (k : Token) → NamedRead s (bytes "s") false at (Ok k) → LiteralRead (named minus) s at (Ok (record { minus = minus; switch = k.value }, k.at))
   unfolding number_done
-  literal_good {n} p h = record { few = h.few; came = λ v xs. name_came p v xs (h.came (literal v xs (ltb at n)) refl) }
+  named_literal k h = record { few = h.few; came = λ v xs. h.came (literal v xs minus) refl }
+
+-- with a `!` before its name, or without
+module _ (s : List ℕ) (at : ℕ) where
+  -- past the `!` the walk is at a name with a minus
+  bang_literal : look s at ≡ code "!" → (r : Result (Literal × ℕ) Stuck) → LiteralRead (named true) s (at + 1) r → LiteralRead one_literal s at r
+  unfolding step move
+  bang_literal e = go
+    where
+      to : (v : Typed) (xs : Clause) → Came s (wish v xs) at (named true v xs) (at + 1)
+      to v xs = came s (wish v xs) (named true v xs) at (omega arith) (rw e)
+
+      go : (r : Result (Literal × ℕ) Stuck) → LiteralRead (named true) s (at + 1) r → LiteralRead one_literal s at r
+      go (Ok p) h = record { few = h.few; came = λ v xs. came_came (to v xs) (h.came v xs) }
+      go (Err f) h = λ v xs. came_stuck (to v xs) (h v xs)
+
+  -- with no `!` there, a literal and a name without a minus go on alike
+  plain_literal : look s at ≢ code "!" → (r : Result (Literal × ℕ) Stuck) → LiteralRead (named false) s at r → LiteralRead one_literal s at r
+  unfolding step move at_end
+  plain_literal e = go
+    where
+      same : (v : Typed) (xs : Clause) → walk (wish v xs) (drop at s) ≡ walk (named false v xs) (drop at s)
+      same v xs = alike s (wish v xs) (named false v xs) at (rw (ne_eqb (look s at) (code "!") e)) refl
+
+      go : (r : Result (Literal × ℕ) Stuck) → LiteralRead (named false) s at r → LiteralRead one_literal s at r
+      go (Ok p) h = record { few = h.few; came = λ v xs. let c = h.came v xs in record { ahead = c.ahead; within = c.within; walk = same v xs ∙ c.walk } }
+      go (Err f) h = λ v xs. let c = h v xs in record { within = c.within; walk = same v xs ∙ c.walk }
+
+  -- the name stands past the `!`, if there is one
+  pub begun_literal : (n : ℕ) → n ≡ past s at (code "!" ∷ []) → (r : Result (Literal × ℕ) Stuck) → LiteralRead (named (ltb at n)) s n r → LiteralRead one_literal s at r
+  begun_literal n p r h = go (dec_le n at)
+    where
+      go : Dec (n ≤ at) → LiteralRead one_literal s at r
+      go (yes l) =
+          let k : n ≡ at = omega arith in
+          plain_literal (past_stayed s at (code "!") (omega arith) (omega arith)) r (rw (le-ltb at n l, k) at h)
+      go (no l) =
+          let (e, k) = past_moved s at (code "!") (omega arith) (omega arith) in
+          bang_literal e r (rw (lt-ltb at n (omega arith), p ∙ k) at h)
 
 -- ---- one to three literals
 
@@ -173,21 +167,24 @@ module _ {s : List ℕ} {c : Points} {l : Lines} {u : List ℕ} (h : WishesTold 
   told = typed c.switches c.faults h.rules h.wishes
 
   -- where a wish's line begins, its word is looked for
-  pub to_word : look s l.at ≡ wish_letter → Came s start 0 (word (bytes "wish ") (wish told [])) l.at
+  to_name : look s l.at ≡ wish_letter → Came s start 0 (word (bytes "wish ") (wish told [])) l.at
   unfolding step move
-  to_word letter = record {
+  to_name letter = record {
     ahead = h.told.came.ahead;
     within = h.told.came.within;
     walk = h.told.came.walk ∙ alike_within s (wish_line told) (word (bytes "wish ") (wish told [])) l.at (stands s l.at (omega arith)) (rw letter);
   }
 
+  pub no_name : look s l.at ≡ wish_letter → {e : Stuck} → WordRead s (bytes "wish ") l.at (Err e) → StuckAt s start 0 e.0
+  no_name letter n = came_stuck (to_name letter) (n (wish told []))
+
   -- and it goes on with its literals
   module _ (letter : look s l.at ≡ wish_letter) {at : ℕ} (n : (st : State) → Came s (word (bytes "wish ") st) l.at st at) where
     to_wish : Came s start 0 (wish told []) at
-    to_wish = came_came (to_word letter) (n (wish told []))
+    to_wish = came_came (to_name letter) (n (wish told []))
 
-    pub wish_stuck : {m : ℕ} → ((v : Typed) → StuckAt s (wish v []) at m) → StuckAt s start 0 m
-    wish_stuck k = came_stuck to_wish (k told)
+    pub no_literals_lem : {e : Stuck} → LiteralsRead s c.switches at (Err e) → StuckAt s start 0 e.0
+    no_literals_lem k = came_stuck to_wish (k told)
 
     module _ {w : Literals} (lits : LiteralsGood s c.switches at w) where
       to_ended : Came s start 0 (ended told lits.clause) w.at
@@ -204,9 +201,9 @@ module _ {s : List ℕ} {c : Points} {l : Lines} {u : List ℕ} (h : WishesTold 
           came_stuck to_ended (ended_stuck s told lits.clause w.at to_ended.within o f)
 
       -- the literals are one more wish: its walk, its words and its fault come after those told so far
-      pub wish_good : {r : Lines} {v : List ℕ} → look s w.at ≡ code "\n" → WishPut w.codes u v → WithWish l w r → WishesTold s c r v × (l.at < r.at)
+      pub wish_read : {r : Lines} {v : List ℕ} → look s w.at ≡ code "\n" → WishPut w.codes u v → WithWish l w r → WishesTold s c r v × (l.at < r.at)
       unfolding sheet_of
-      wish_good e put q =
+      wish_read e put q =
           let a : ℕ = c.switches in
           let f : ℕ = c.faults in
           let ws : List Clause = h.wishes in

@@ -1,6 +1,5 @@
 -- Where the byte stands it is in the text, so the place after it is a number.
-use Rattle.std.proofs.Common.{◌≡◌, arith, sym, ◌∙◌}
-use borrow.Author.Tests.{eqb-true}
+use Rattle.std.proofs.Common.{◌≡◌, arith, sym, ◌∙◌, eqb-true}
 use Rattle.scanner.specs.Look.{look}
 use Rattle.scanner.specs.Laws.Walks.{stands}
 use Rattle.formula.specs.Formulas.{ended_of}

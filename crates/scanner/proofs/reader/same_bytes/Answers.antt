@@ -1,6 +1,6 @@
 -- Where the byte that is looked at is the one asked for, one more is counted; where it is not, or the word has ended, no more are.
-use Rattle.std.proofs.Common.{◌≡◌, sym, ◌∙◌, ◌+◌, arith, get_or}
-use borrow.Author.Tests.{eqb-true, eqb-false}
+use Rattle.std.proofs.Common.{◌≡◌, sym, ◌∙◌, ◌+◌, arith, get_or, eqb-true}
+use Rattle.std.proofs.lemmas.Bool.{eqb-false}
 use Rattle.scanner.specs.Look.{look}
 use Rattle.scanner.specs.Laws.Walks.{stands, standing_on, standing_off, standing_end}
 use Rattle.scanner.proofs.reader.same_bytes.Goals as goal

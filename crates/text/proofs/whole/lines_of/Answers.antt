@@ -1,28 +1,12 @@
--- Where the head or a line is stuck, so is the text; else its parts follow each other, and after the wishes the text ends or is stuck.
-use Rattle.std.proofs.lemmas.Result.{err_from_is_err_and}
+-- The parts follow each other, and after the wishes the text ends or is stuck.
 use Rattle.text.specs.Laws.Texts.{rules_begin, wishes_begin, text_goes_on, text_ends}
 use Rattle.text.proofs.whole.lines_of.Goals as goal
-
-pub returns-in_err-h : goal.returns-in_err-h
-returns-in_err-h c =
-    let p = err_from_is_err_and c.from_residual.result c.from_residual.ensures.1 in
-    rw (p.1, p.2) c.in_err-h.ensures
 
 pub rule_lines-requires : goal.rule_lines-requires
 rule_lines-requires c = rules_begin c.in_ok-h.h c.requires.0 c.in_ok-h.ensures c.head_lines.ensures c.requires.1 c.put_head.ensures
 
-pub returns-in_err-rules : goal.returns-in_err-rules
-returns-in_err-rules c =
-    let p = err_from_is_err_and c.from_residual-in_err-rules.result c.from_residual-in_err-rules.ensures.1 in
-    rw (p.1, p.2) c.in_err-rules.ensures.0
-
 pub wish_lines-requires : goal.wish_lines-requires
 wish_lines-requires c = wishes_begin c.in_ok-rules.ensures.0 c.in_ok-rules.ensures.1
-
-pub returns-in_err-l : goal.returns-in_err-l
-returns-in_err-l c =
-    let p = err_from_is_err_and c.from_residual-in_err-l.result c.from_residual-in_err-l.ensures.1 in
-    rw (p.1, p.2) c.in_err-l.ensures.0
 
 pub returns-then-l-s : goal.returns-then-l-s
 returns-then-l-s c = text_goes_on c.in_ok-l.ensures.0 c.in_ok-l.ensures.1 c.if-l-s.true

@@ -1,13 +1,11 @@
 -- The first literal is read, and each further one is put last, after the space that stands in the text.
 use Rattle.std.proofs.Common.{sym, arith}
-use Rattle.std.proofs.lemmas.Result.{err_from_is_err_and}
+use Rattle.scanner.specs.Laws.Tokens.{handed_on}
 use Rattle.text.specs.Laws.Wishes.{literal_asked, less_literals, literals_first, literals_more, literals_stuck}
 use Rattle.text.proofs.wish.literals_at.Goals as goal
 
 pub returns-in_err-w : goal.returns-in_err-w
-returns-in_err-w c =
-    let p = err_from_is_err_and c.from_residual.result c.from_residual.ensures.1 in
-    rw (p.1, p.2) (λ v. c.in_err-w.ensures v _)
+returns-in_err-w c = rw (handed_on _ c.from_residual.ensures.1) (λ v. c.in_err-w.ensures v _)
 
 pub loop-w-init : goal.loop-w-init
 loop-w-init c = literals_first c.in_ok-w.ensures
@@ -25,6 +23,4 @@ pub loop-w-preserved : goal.loop-w-preserved
 loop-w-preserved c = literals_more (sym c.loop-w-test.ensures) c.loop-w.invariant c.in_ok-w-2.ensures
 
 pub returns-in_err-w-2 : goal.returns-in_err-w-2
-returns-in_err-w-2 c =
-    let p = err_from_is_err_and c.from_residual-in_err-w-2.result c.from_residual-in_err-w-2.ensures.1 in
-    rw (p.1, p.2) (literals_stuck (sym c.loop-w-test.ensures) c.loop-w.invariant c.in_err-w-2.ensures)
+returns-in_err-w-2 c = rw (handed_on _ c.from_residual-in_err-w-2.ensures.1) (literals_stuck (sym c.loop-w-test.ensures) c.loop-w.invariant c.in_err-w-2.ensures)
