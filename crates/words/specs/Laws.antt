@@ -2,4 +2,5 @@
 pub mod Rooms
 pub mod Puts
 pub mod Sheets
+pub mod Tests
 pub mod Held
