@@ -12,11 +12,11 @@ before t m p q e l n = (omega arith, (omega arith, omega arith))
 
 pub returns-then-point-a : goal.returns-then-point-a
 returns-then-point-a t c =
-    c.switch_on.ensures ∙ at_switch c.args.sheet.now c.counts-counts.ensures.counts c.args.plan.0 c.args.pattern.0 c.args.point (c.requires.0, c.if-point-a.true)
+    c.digit.ensures ∙ at_switch c.args.sheet.now c.counts-counts.ensures.counts c.args.plan.0 c.args.pattern.0 c.args.point (c.requires.0, c.if-point-a.true)
 
 pub returns-then-point-inputs : goal.returns-then-point-inputs
 returns-then-point-inputs t c =
-    c.fault_on.ensures ∙ at_fault_lem c.args.sheet.now c.counts-counts.ensures.counts c.args.plan.0 c.args.pattern.0 c.args.point c.if-point-a.false c.if-point-inputs.true
+    c.digit-then-point-inputs.ensures ∙ at_fault_lem c.args.sheet.now c.counts-counts.ensures.counts c.args.plan.0 c.args.pattern.0 c.args.point c.if-point-a.false c.if-point-inputs.true
 
 pub truth-requires : goal.truth-requires
 truth-requires t c =
