@@ -1,6 +1,6 @@
 // Switches as a plan sets them: which are on, and which wishes they keep.
 ghost use Rattle.std.specs.Prelude.{◌≡◌, ◌≤◌};
-ghost use Rattle.scope.specs.Sheet.{most_switches, All, Among};
+ghost use Rattle.scope.specs.Sheet.{most_switches, All, Among, Valid};
 ghost use Rattle.scope.specs.Sheet as scope;
 ghost use Rattle.scope.specs.Meaning.{bits, nth, keeps};
 ghost use Rattle.words.specs.Entries.{clause_from};
@@ -23,6 +23,7 @@ pub struct Switches {
 impl Switches {
     // Those of a sheet.
     pub fn of(sheet: &Sheet, plan: Plan) -> Switches
+        ensures valid { Valid sheet.now }
         ensures count { result.count ≡ sheet.now.switches }
         ensures plan { result.plan ≡ plan }
     {
