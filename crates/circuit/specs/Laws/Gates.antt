@@ -2,7 +2,7 @@
 use Rattle.std.specs.Prelude.{ℕ, zero, suc, ◌+◌, ◌<◌, Bool, true, false, cond, not, List, [], ◌∷◌, ◌≢◌, ◌≡◌, refl, eqb, length, get_or}
 use Prim.Native.Char.{code}
 use Rattle.std.proofs.Common.{add-zero, arith, ap, subst}
-use borrow.Author.Tests.{not-true, not-false}
+use Rattle.std.proofs.lemmas.Bool.{not-true, not-false}
 use Rattle.scope.specs.Sheet.{Gate, Among, Names, Ordered}
 use Rattle.scope.specs.Meaning.{gate_truth}
 use Rattle.scope.specs.Words.{word, gate_words}
