@@ -9,6 +9,7 @@ use words::sheet::Sheet;
 use words::{Pattern, Plan};
 
 // Digit p of n binary digits of a number, the first highest.
+#[tactic(auto, using(scope::proofs::Laws::Points::bits_at))]
 pub(crate) fn digit(number: u32, n: u32, p: u32) -> bool
     requires { (n ≤ 32) × Among n p }
     ensures { result ≡ nth (bits n number) p }
@@ -18,6 +19,7 @@ pub(crate) fn digit(number: u32, n: u32, p: u32) -> bool
 
 // The truth of a point by recursion over the gates; the second point of a gate is looked at only if
 // the first does not decide.
+#[tactic(auto, using(crate::specs::Laws::Points::at_switch, crate::specs::Laws::Points::at_fault_lem))]
 pub fn truth(sheet: &Sheet, plan: Plan, pattern: Pattern, point: u32) -> bool
     requires { Among (points sheet.now) point }
     ensures { result ≡ meaning.truth sheet.now plan.0 pattern.0 point }

@@ -1,6 +1,6 @@
 -- A broken wish costs 1 and a kept one 0.
-use Rattle.std.proofs.Common.{◌≡◌, ◌<◌, length, arith, ap, ◌∙◌}
-use Rattle.circuit.specs.Laws.Wishes.{first_none, first_next, first_all}
+use Rattle.std.proofs.Common.{◌<◌, length, arith, ap}
+use Rattle.circuit.specs.Laws.Wishes.{first_none, first_next}
 use Rattle.circuit.proofs.wish.cost.Goals as goal
 use Rattle.circuit.proofs.wish.cost.Goals.{then-not-keeps, else-not-keeps}
 
@@ -17,9 +17,3 @@ loop-i-preserved c =
       | then-not-keeps w ↦ (omega arith, omega (arith, rw w.if-not-keeps.true at next))
       | else-not-keeps w ↦ (omega arith, omega (arith, rw w.if-not-keeps.false at next))
     ]
-
-pub returns : goal.returns
-returns c =
-    let t = c.args.sheet.now in
-    let n : c.loop-i.i ≡ length t.wishes = omega (arith, ap (λ k. k.wishes) c.counts-i-end.ensures.counts) in
-    c.loop-i.invariant.1 ∙ first_all t c.args.plan.0 c.loop-i.i n
