@@ -1,7 +1,6 @@
 -- The wishes of a sheet, one by one: what the first of them cost, and what the rest. Assumes nothing.
 use Rattle.std.specs.Prelude.{ℕ, suc, ◌+◌, ◌≤◌, ◌<◌, Bool, true, false, cond, ◌≡◌, [], ◌∷◌, take, drop, length, get_or}
 use Rattle.std.proofs.Common.{add-one, arith, ◌∙◌, refl, take-suc, drop-cons, drop_of_length-le}
-use Rattle.std.proofs.Math.Seq.{take-length}
 use Rattle.scope.specs.Sheet.{Sheet, sheet}
 use Rattle.scope.specs.Meaning.{bits, nth, switch_on, keeps, broken, kept, cost, costs}
 use Rattle.scope.proofs.Laws.Wishes.{cost_most, cost_one, cost_together}
@@ -19,9 +18,6 @@ module _ (t : Sheet) (plan : ℕ) where
   pub first_next : (i : ℕ) (b : Bool) → i < length t.wishes → b ≡ keeps (nth (bits t.switches plan)) (get_or t.wishes i []) → first (i + 1) ≡ first i + cond b 0 1
   unfolding kept switch_on
   first_next i b h e = rw (add-one, take-suc t.wishes i [] h, e) (cost_together t.switches t.faults t.gates t.rules plan (take i t.wishes) (get_or t.wishes i [] ∷ []) ∙ rw cost_one)
-
-  pub first_all : (i : ℕ) → i ≡ length t.wishes → first i ≡ cost t plan
-  first_all i e = rw (e, take-length)
 
   -- what the wishes from i on cost
   abbrev pub from : ℕ → ℕ
