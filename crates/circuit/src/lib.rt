@@ -7,4 +7,5 @@
 
 pub mod point;
 pub mod rule;
+pub mod switches;
 pub mod wish;

@@ -1,6 +1,6 @@
 // Points: the truth of switches, faults and gates.
 ghost use Rattle.std.specs.Prelude.{◌≡◌, ◌≤◌};
-ghost use Rattle.scope.specs.Sheet.{most_switches, most_faults, points, Among};
+ghost use Rattle.scope.specs.Sheet.{points, Among};
 ghost use Rattle.scope.specs.Meaning.{bits, nth};
 ghost use Rattle.scope.specs.Meaning as meaning;
 
@@ -9,31 +9,17 @@ use words::sheet::Sheet;
 use words::{Pattern, Plan};
 
 // Digit p of n binary digits of a number, the first highest.
-fn digit(number: u32, n: u32, p: u32) -> bool
+#[tactic(auto, using(scope::proofs::Laws::Points::bits_at))]
+pub(crate) fn digit(number: u32, n: u32, p: u32) -> bool
     requires { (n ≤ 32) × Among n p }
     ensures { result ≡ nth (bits n number) p }
 {
     (number >> (n - p)) % 2 == 1
 }
 
-// Whether switch k of a is on in a plan.
-pub fn switch_on(plan: Plan, a: u32, k: u32) -> bool
-    requires { (a ≤ most_switches) × Among a k }
-    ensures { result ≡ nth (bits a plan.0) k }
-{
-    digit(plan.0, a, k)
-}
-
-// Whether fault k of f is in a pattern.
-fn fault_on(pattern: Pattern, f: u32, k: u32) -> bool
-    requires { (f ≤ most_faults) × Among f k }
-    ensures { result ≡ nth (bits f pattern.0) k }
-{
-    digit(pattern.0, f, k)
-}
-
 // The truth of a point by recursion over the gates; the second point of a gate is looked at only if
 // the first does not decide.
+#[tactic(auto, using(crate::specs::Laws::Points::at_switch, crate::specs::Laws::Points::at_fault_lem))]
 pub fn truth(sheet: &Sheet, plan: Plan, pattern: Pattern, point: u32) -> bool
     requires { Among (points sheet.now) point }
     ensures { result ≡ meaning.truth sheet.now plan.0 pattern.0 point }
@@ -41,11 +27,11 @@ pub fn truth(sheet: &Sheet, plan: Plan, pattern: Pattern, point: u32) -> bool
     let counts = sheet.counts();
     let a = counts.switches;
     if point <= a {
-        return switch_on(plan, a, point);
+        return digit(plan.0, a, point);
     }
     let inputs = a + counts.faults;
     if point <= inputs {
-        return fault_on(pattern, counts.faults, point - a);
+        return digit(pattern.0, counts.faults, point - a);
     }
     match sheet.gate((point - inputs - 1) as usize) {
         Gate::Not(p) => !truth(sheet, plan, pattern, p),

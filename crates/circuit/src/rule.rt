@@ -10,6 +10,7 @@ use words::sheet::Sheet;
 use words::{Pattern, Plan};
 
 // Whether all rules are true.
+#[tactic(auto, using(crate::specs::Laws::Patterns::passes_rules, crate::specs::Laws::Patterns::passes_but))]
 pub fn passes(sheet: &Sheet, plan: Plan, pattern: Pattern) -> bool
     ensures { result ≡ meaning.passes sheet.now plan.0 pattern.0 }
 {

@@ -7,8 +7,7 @@ ghost use Rattle.scope.specs.Program.{each, switch_row, wish_row, pattern_row, r
 ghost use Rattle.listing.specs.Rows.{row_size, field_end, figure_rows, Small, Given, Wrote};
 
 use crate::row::put_row;
-use circuit::point::switch_on;
-use circuit::wish::kept;
+use circuit::switches::Switches;
 use words::Plan;
 use words::sheet::Sheet;
 
@@ -39,7 +38,7 @@ fn is_on(sheet: &Sheet, plan: Plan, i: usize) -> bool
     requires { i < sheet.now.switches }
     ensures { result ≡ get_or (bits sheet.now.switches plan.0) i false }
 {
-    switch_on(plan, sheet.counts().switches, i as u32 + 1)
+    Switches::of(sheet, plan).is_on(i as u32 + 1)
 }
 
 // Whether wish i is kept, counted from 0.
@@ -48,7 +47,7 @@ fn is_kept(sheet: &Sheet, plan: Plan, i: usize) -> bool
     requires { i < length sheet.now.wishes }
     ensures { result ≡ meaning.kept sheet.now plan.0 (get_or sheet.now.wishes i []) }
 {
-    kept(sheet.wish(i), sheet.counts().switches, plan)
+    Switches::of(sheet, plan).keeps(sheet.wish(i))
 }
 
 // A row for each switch, on or off.

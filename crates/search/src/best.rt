@@ -13,11 +13,11 @@ use circuit::rule::{passes, power};
 use words::sheet::Sheet;
 use words::{Pattern, Plan};
 
-// A plan, with its cost.
-#[derive(Clone, Copy)]
+// A plan, with its cost, by which they are ordered first.
+#[derive(Clone, Copy, PartialEq, Eq, PartialOrd, Ord)]
 pub struct Candidate {
-    pub plan: Plan,
     pub cost: u32,
+    pub plan: Plan,
 }
 
 // Whether the plan passes each pattern of the list; left at the first that it does not.
@@ -40,7 +40,7 @@ fn improves(best: Option<Candidate>, cost: u32) -> bool
 fn known_to_fail(last: Option<Candidate>, new: Candidate) -> bool
     ensures { result ≡ fails_of last new.cost new.plan.0 }
 {
-    last.is_some_and(|l| new.cost < l.cost || new.cost == l.cost && new.plan.0 <= l.plan.0)
+    last.is_some_and(|l| new <= l)
 }
 
 // The better of the best so far and the next plan. Its cost is looked at first: a plan that costs no

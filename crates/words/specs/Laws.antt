@@ -2,5 +2,6 @@
 pub mod Rooms
 pub mod Puts
 pub mod Sheets
+pub mod Tests
 pub mod Told
 pub mod Held

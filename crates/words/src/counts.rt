@@ -41,6 +41,7 @@ pub fn counts_of(words: &Words) -> Counts
 }
 
 // The words with so many switches and faults.
+#[tactic(auto, using(crate::specs::Laws::Puts::head_put))]
 pub fn put_head(words: &mut Words, switches: u32, faults: u32)
     ensures { HeadPut switches faults words.old words.new }
 {

@@ -58,6 +58,7 @@ pub fn gate_words(words: &Words, i: usize) -> [u32; GATE_SIZE]
 }
 
 // One more gate, if there is room.
+#[tactic(auto, using(crate::specs::Laws::Puts::gate_put))]
 pub fn put_gate(words: &mut Words, gate: Gate)
     ensures { GatePut (gate_from gate) words.old words.new }
 {

@@ -22,7 +22,7 @@ pub const WORDS: usize = FIRST_WISH + MOST_WISHES as usize * WISH_SIZE;
 pub type Words = [u32; WORDS];
 
 // A plan: the switches as binary digits, switch 1 highest, on as 1. The source's μ.
-#[derive(Clone, Copy)]
+#[derive(Clone, Copy, PartialEq, Eq, PartialOrd, Ord)]
 pub struct Plan(pub u32);
 
 // A fault pattern: the faults as binary digits, fault 1 highest. The source's ν.

@@ -32,6 +32,7 @@ pub fn rule_at(words: &Words, i: usize) -> u32
 }
 
 // One more rule, if there is room.
+#[tactic(auto, using(crate::specs::Laws::Puts::rule_put))]
 pub fn put_rule(words: &mut Words, point: u32)
     ensures { RulePut point words.old words.new }
 {

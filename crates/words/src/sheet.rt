@@ -42,6 +42,7 @@ impl Sheet {
         &self.words
     }
 
+    #[tactic(auto, using(crate::specs::Laws::Held::held_gates, crate::specs::Laws::Held::held_rules, crate::specs::Laws::Held::held_wishes))]
     pub fn counts(&self) -> Counts
         ensures valid { Valid self.now }
         ensures counts { result ≡ counts_from self.now }
@@ -62,6 +63,7 @@ impl Sheet {
         }
     }
 
+    #[tactic(auto, using(crate::specs::Laws::Held::held_rules, crate::specs::Laws::Held::held_rule))]
     pub fn rule(&self, i: usize) -> u32
         requires { i < length self.now.rules }
         ensures { result ≡ get_or self.now.rules i 0 }
@@ -69,6 +71,7 @@ impl Sheet {
         rule_at(&self.words, i)
     }
 
+    #[tactic(auto, using(crate::specs::Laws::Held::held_wishes, crate::specs::Laws::Held::held_wish))]
     pub fn wish(&self, i: usize) -> Wish
         requires { i < length self.now.wishes }
         ensures { clause_from result ≡ get_or self.now.wishes i [] }

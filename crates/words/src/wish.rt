@@ -32,6 +32,7 @@ pub fn wish_at(words: &Words, i: usize) -> Wish
 }
 
 // One more wish, if there is room.
+#[tactic(auto, using(crate::specs::Laws::Puts::wish_put))]
 pub fn put_wish(words: &mut Words, wish: Wish)
     ensures { WishPut wish words.old words.new }
 {

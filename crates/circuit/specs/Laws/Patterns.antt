@@ -1,7 +1,7 @@
 -- Passing a pattern, rule by rule, and the first pattern missed, pattern by pattern. Assumes nothing.
-use Rattle.std.specs.Prelude.{ℕ, zero, suc, ◌≤◌, ◌<◌, Bool, true, false, ◌&&◌, List, [], ◌∷◌, ◌≡◌, refl, length, get_or, Option, Some, None, MatchOption, IsSomeAnd}
+use Rattle.std.specs.Prelude.{ℕ, zero, suc, ◌+◌, ◌≤◌, ◌<◌, Bool, true, false, ◌&&◌, List, [], ◌∷◌, ◌≡◌, refl, length, get_or, drop, Option, Some, None, MatchOption, IsSomeAnd}
 use Rattle.std.proofs.Math.Decide.{dec_le}
-use Rattle.std.proofs.Common.{arith, sym}
+use Rattle.std.proofs.Common.{add-one, arith, sym, drop_of_length-le, drop-cons}
 use Rattle.std.proofs.Math.Bool.{not}
 use Rattle.std.proofs.Math.Option.{none, some}
 use Rattle.std.proofs.lemmas.Bool.{not-true}
@@ -29,6 +29,18 @@ module _ (v : ℕ → Bool) where
       go true h = h
       go false h = refl
 
+-- those from i on, by the first of them
+module _ (v : ℕ → Bool) (s : List ℕ) (i : ℕ) where
+  pub all_step : i < length s → v (get_or s i 0) ≡ true → all (drop (i + 1) s) v ≡ all (drop i s) v
+  all_step h e = rw (add-one, drop-cons s i 0 h, e)
+
+  pub all_stop : i < length s → v (get_or s i 0) ≡ false → false ≡ all (drop i s) v
+  all_stop h e = rw (drop-cons s i 0 h, e)
+
+  pub all_end : length s ≤ i → true ≡ all (drop i s) v
+  all_end h = rw (drop_of_length-le s h)
+
+-- ---- all rules
 module _ (t : Sheet) (plan pattern : ℕ) where
   pub passes_rules : ((i : ℕ) → i < length t.rules → truth t plan pattern (get_or t.rules i 0) ≡ true) → true ≡ passes t plan pattern
   unfolding passes

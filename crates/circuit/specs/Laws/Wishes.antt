@@ -1,10 +1,9 @@
--- The wishes of a sheet, one by one: what the first of them cost. Assumes nothing.
-use Rattle.std.specs.Prelude.{ℕ, ◌+◌, ◌<◌, Bool, cond, ◌≡◌, [], ◌∷◌, take, length, get_or}
-use Rattle.std.proofs.Common.{add-one, ◌∙◌, refl, take-suc}
-use Rattle.std.proofs.Math.Seq.{take-length}
-use Rattle.scope.specs.Sheet.{Sheet}
+-- The wishes of a sheet, one by one: what the first of them cost, and what the rest. Assumes nothing.
+use Rattle.std.specs.Prelude.{ℕ, suc, ◌+◌, ◌≤◌, ◌<◌, Bool, true, false, cond, ◌≡◌, [], ◌∷◌, take, drop, length, get_or}
+use Rattle.std.proofs.Common.{add-one, arith, ◌∙◌, refl, take-suc, drop-cons, drop_of_length-le}
+use Rattle.scope.specs.Sheet.{Sheet, sheet}
 use Rattle.scope.specs.Meaning.{bits, nth, switch_on, keeps, broken, kept, cost, costs}
-use Rattle.scope.proofs.Laws.Wishes.{cost_one, cost_together}
+use Rattle.scope.proofs.Laws.Wishes.{cost_most, cost_one, cost_together}
 
 module _ (t : Sheet) (plan : ℕ) where
   -- what the first i wishes cost
@@ -20,5 +19,21 @@ module _ (t : Sheet) (plan : ℕ) where
   unfolding kept switch_on
   first_next i b h e = rw (add-one, take-suc t.wishes i [] h, e) (cost_together t.switches t.faults t.gates t.rules plan (take i t.wishes) (get_or t.wishes i [] ∷ []) ∙ rw cost_one)
 
-  pub first_all : (i : ℕ) → i ≡ length t.wishes → first i ≡ cost t plan
-  first_all i e = rw (e, take-length)
+  -- what the wishes from i on cost
+  abbrev pub from : ℕ → ℕ
+  from i = costs t.switches t.faults t.gates t.rules plan (drop i t.wishes)
+
+  module _ (i : ℕ) where
+    -- wish i and those after it cost together what they cost apart
+    cost_next : i < length t.wishes → from i ≡ cond (kept t plan (get_or t.wishes i [])) 0 1 + from (i + 1)
+    unfolding kept switch_on
+    cost_next h = rw (add-one i, drop-cons t.wishes i [] h) (cost_together t.switches t.faults t.gates t.rules plan (get_or t.wishes i [] ∷ []) (drop (suc i) t.wishes) ∙ rw cost_one)
+
+    pub cost_kept : i < length t.wishes → kept t plan (get_or t.wishes i []) ≡ true → from i ≡ from (i + 1)
+    cost_kept h e = let n = rw e at (cost_next h) in omega (arith, n)
+
+    pub cost_more : i < length t.wishes → kept t plan (get_or t.wishes i []) ≡ false → from i ≡ suc (from (i + 1))
+    cost_more h e = let n = rw e at (cost_next h) in omega (arith, n)
+
+    pub cost_end : length t.wishes ≤ i → from i ≡ 0
+    cost_end h = rw (drop_of_length-le t.wishes {i = i} h) (omega (arith, cost_most (sheet t.switches t.faults t.gates t.rules []) plan))

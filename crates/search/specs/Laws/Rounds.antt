@@ -1,20 +1,25 @@
 -- A round: what follows from the best plan and from the pattern that it misses. Assumes nothing.
 use Rattle.std.specs.Prelude.{ℕ, ◌<◌, Bool, List, [], ◌∷◌, ◌++◌, ◌≡◌, leb, ltb, ◌&&◌, ◌||◌, Option, Some, None}
-use Rattle.std.proofs.Common.{arith, sym}
+use Rattle.std.proofs.Common.{arith, sym, ap, ◌∙◌, eqb-true, leb-true, ltb-true}
 use Rattle.std.proofs.Math.Bool.{true, false}
 use Rattle.std.proofs.Math.Option.{some}
 use Rattle.std.proofs.Math.Path.{refl}
 use Rattle.std.proofs.Math.Dec.{eqb}
-use borrow.Author.Tests.{eqb-true, leb-true, ltb-true, not-true}
+use Rattle.std.proofs.lemmas.Bool.{not-true}
 use Rattle.scope.specs.Rule.{Task, passes_all, best, missed, missed_by, next}
 use Rattle.scope.proofs.Laws.Tests.{clash, both}
 use Rattle.scope.proofs.Laws.Picks.{Ahead}
 use Rattle.scope.proofs.Laws.Rules.{best_iff, missed_iff}
+use Rattle.words.specs.declared.Pattern.{Pattern}
+use Rattle.circuit.specs.Answers.{missed_of}
 use Rattle.search.specs.declared.best.Candidate.{Candidate}
 use Rattle.search.specs.Answers.{best_of, Priced}
-use Rattle.search.specs.Steps.{fails_of, Fails}
+use Rattle.search.specs.Steps.{fails_of, Fails, Stepped}
 
 -- ---- plans that are known to fail
+
+pub none_fails : (t : Task) (l : List ℕ) → Fails t l None
+none_fails t l = record { fail = λ n h e. clash e refl }
 
 passes_front : (t : Task) (p : ℕ) (l : List ℕ) (q : ℕ) → passes_all t p (l ++ q ∷ []) ≡ true → (passes_all t p l ≡ true) × (t.passes p q ≡ true)
 passes_front t p [] q e = (refl, (both (t.passes p q) true e).0)
@@ -59,3 +64,20 @@ module _ (t : Task) (l : List ℕ) (b : Option Candidate) (best_is : best_of b �
       go : (b : Option Candidate) → best_of b ≡ best t l → Priced t b → (q : ℕ) → missed_by t (best_of b) ≡ some q → Fails t (l ++ q ∷ []) b
       go None e p q m = cc
       go (Some c) e p q m = next_fails t l c q e p m
+
+  -- so there is a round: it ends where there is no candidate, or a sound one, and else lists what the candidate misses
+  module _ (priced : Priced t b) where
+    pub no_candidate : b ≡ None → Stepped t l None None
+    no_candidate e = (sym next_is ∙ ap (λ b. missed_by t (best_of b)) e, ap best_of (sym e) ∙ best_is, tt)
+
+    module _ (c : Candidate) (e : b ≡ Some c) (m : Option Pattern) (missed_is : missed_of m ≡ missed t c.plan.0) where
+      misses : missed_by t (best_of b) ≡ missed_of m
+      misses = ap (λ b. missed_by t (best_of b)) e ∙ sym missed_is
+
+      pub candidate_sound : m ≡ None → Stepped t l (Some c) None
+      candidate_sound f = (sym next_is ∙ misses ∙ ap missed_of f, ap best_of (sym e) ∙ best_is, rw e at priced)
+
+      pub candidate_misses : (q : Pattern) → m ≡ Some q → Stepped t l (Some c) (Some q)
+      candidate_misses q f =
+          let g : missed_by t (best_of b) ≡ some q.0 = misses ∙ ap missed_of f in
+          (sym next_is ∙ g, rw e at (listed_fails priced q.0 g))

@@ -1,6 +1,7 @@
 -- A run into a lent list, round by round. Assumes nothing.
-use Rattle.std.specs.Prelude.{ℕ, suc, ◌+◌, ◌-◌, ◌≤◌, ◌<◌, List, [], ◌∷◌, ◌++◌, ◌≡◌, length, take, drop, set, Option, Ok, Err}
+use Rattle.std.specs.Prelude.{ℕ, suc, ◌+◌, ◌-◌, ◌≤◌, ◌<◌, List, [], ◌∷◌, ◌++◌, ◌≡◌, refl, length, take, drop, set, Option, Ok, Err}
 use Rattle.std.proofs.Common.{arith, add-one, sym, ap, ◌∙◌, length-set, take-append-drop, length-take-le, take-suc-set, drop-set-lt, drop-drop}
+use Rattle.std.proofs.Math.Nat.{sub-zero}
 use Rattle.std.proofs.Math.Option.{none, some}
 use Rattle.scope.specs.Rule.{Task, best, next, short, rule}
 use Rattle.scope.specs.Jobs.{over}
@@ -15,6 +16,9 @@ pub record Kept (lent l : List ℕ) (n : ℕ) : Type 0 where
   pub same : length l ≡ length lent
   pub fits : n ≤ length l
   pub rest : drop n l ≡ drop n lent
+
+pub kept_none : (l : List ℕ) → Kept l l 0
+kept_none l = record { same = refl; fits = omega arith; rest = refl }
 
 pub kept_more : (lent l : List ℕ) (n x : ℕ) → n < length l → Kept lent l n → Kept lent (set l n x) (n + 1)
 kept_more lent l n x h k = record {
@@ -32,6 +36,9 @@ listed_more l n x h = rw (add-one n) (take-suc-set l n x h)
 -- ---- the rule goes on from what is listed, with the room that is left
 abbrev pub Onward : Task → List ℕ → List ℕ → ℕ → Type 0
 Onward t lent l n = rule t (length lent) [] ≡ rule t (length l - n) (take n l)
+
+pub on_start : (t : Task) (lent : List ℕ) → Onward t lent lent 0
+on_start t lent = rw sub-zero
 
 module _ (t : Task) (lent l : List ℕ) (n : ℕ) (k : Kept lent l n) (o : Onward t lent l n) where
   pub on_more : (x : ℕ) → next t (take n l) ≡ some x → n < length l → Onward t lent (set l n x) (n + 1)

@@ -5,6 +5,7 @@ use Prim.Native.Char.{code}
 use Rattle.scope.specs.Sheet.{Clause, Among, Valid, points}
 use Rattle.scope.specs.Sheet as scope
 use Rattle.scope.specs.Words.{gate_size, wish_size, gates_from, wishes_from, word, no_gate, gate_words, wish_words, gate_at, rule_at, wish_at, held, Used}
+use Rattle.scope.proofs.Laws.Alls.{all_at}
 use Rattle.scope.proofs.Laws.Entries.{length_entries}
 use Rattle.scope.proofs.Laws.Entries as entries
 use Rattle.scope.proofs.Laws.Words.{gate_sized, wish_sized, gate_word, wish_word, words_kept}
@@ -55,8 +56,16 @@ module _ (s : List ℕ) where
   pub held_wish : (i : ℕ) → i < (counts_at s).wishes → get_or (held s).wishes i [] ≡ clause_from (wish_words_at s i)
   held_wish i h = entries.entry_at (wish_at s) [] (word s 4) i h ∙ wish_by_words i
 
-  -- ---- of a valid one the words stand for an entry, whose words they are
+  -- ---- of a valid one
   module _ (v : Valid (held s)) (i : ℕ) where
+    pub rule_among : i < (counts_at s).rules → Among (points (held s)) (rule_at s i)
+    rule_among h = rw (held_rule i h) at (all_at (Among (points (held s))) (held s).rules 0 i v.rules (omega (arith, held_rules)))
+
+    pub wish_allowed : i < (counts_at s).wishes → scope.Wish (counts_at s).switches (clause_from (wish_words_at s i))
+    wish_allowed h = rw (held_wish i h) at (all_at (scope.Wish (counts_at s).switches) (held s).wishes [] i v.wishes (omega (arith, held_wishes)))
+
+    -- the words stand for an entry, whose words they are
+
     pub gate_kept : i < (counts_at s).gates → let w : List ℕ = gate_words_at s i in gate_words (gate_of_words w) ≡ word w 0 ∷ word w 1 ∷ word w 2 ∷ []
     gate_kept h =
         let g : scope.Gate = gate_of_words (gate_words_at s i) in

@@ -1,11 +1,7 @@
 -- The words of a sheet with one more entry: the entry's words go into its room, and its count goes up by one. Assumes nothing.
-use Prim.Native.Nat.{ℕ, ◌+◌, ◌*◌, ◌<◌}
-use Rattle.std.proofs.Math.Numerals.{add-one}
-use Rattle.std.proofs.Common.{arith, ap, lt-ltb}
-use mathlib.Core.List.{List, [], ◌∷◌, ◌++◌, append_assoc, append-nil}
-use Rattle.std.specs.Prelude.{◌≡◌, refl, set}
-use Rattle.std.proofs.Math.ListN.{length, length-append}
-use Rattle.std.proofs.Math.Seq.{sets}
+use Rattle.std.specs.Prelude.{ℕ, ◌+◌, ◌*◌, ◌≤◌, ◌<◌, List, [], ◌∷◌, ◌++◌, ◌≡◌, refl, length, set}
+use Rattle.std.proofs.Common.{arith, ap, add-one, lt-ltb, append_assoc, append-nil, length-append}
+use Rattle.std.proofs.lemmas.List.Edits.{sets}
 use Rattle.scope.specs.Sheet.{Clause, Sheet, sheet, most_gates, most_rules, most_wishes}
 use Rattle.scope.specs.Sheet as scope
 use Rattle.scope.specs.Causes.{add_gate, add_rule, add_wish}
@@ -96,15 +92,24 @@ wish_before t s x k w =
     record { within = i; space = h; words = k i; counted = ap (λ u. word u 4) (k i) }
 
 module _ (s : List ℕ) where
+  pub gate_full : (g : scope.Gate) → most_gates ≤ word s 2 → GatePut g s s
+  gate_full g full t k w = let b : Before t s 2 (length t.gates) most_gates = gate_before t s g k w in absurd (omega arith)
+
   pub gate_put : (g : scope.Gate) → GatePut g s (pushed 2 gates_from most_gates gate_size (gate_words g) s)
   gate_put g t k w =
       let b : Before t s 2 (length t.gates) most_gates = gate_before t s g k w in
       rw (b.counted, lt-ltb _ _ b.space, b.words) (gate_more t (gate_words g) g refl b.space)
 
+  pub rule_full : (p : ℕ) → most_rules ≤ word s 3 → RulePut p s s
+  rule_full p full t k w = let b : Before t s 3 (length t.rules) most_rules = rule_before t s p k w in absurd (omega arith)
+
   pub rule_put : (p : ℕ) → RulePut p s (pushed 3 rules_from most_rules 1 (rule_words p) s)
   rule_put p t k w =
       let b : Before t s 3 (length t.rules) most_rules = rule_before t s p k w in
       rw (b.counted, lt-ltb _ _ b.space, b.words) (rule_more t (rule_words p) p refl b.within b.space)
+
+  pub wish_full : (v : List ℕ) → most_wishes ≤ word s 4 → WishPut v s s
+  wish_full v full t x e k w = let b : Before t s 4 (length t.wishes) most_wishes = wish_before t s x k w in absurd (omega arith)
 
   pub wish_put : (v : List ℕ) → WishPut v s (pushed 4 wishes_from most_wishes wish_size v s)
   wish_put v t x e k w =

@@ -1,10 +1,6 @@
 -- A room with one more entry: the entry's words take the place of the first zeros. Assumes nothing.
-use Prim.Native.Nat.{ℕ, suc, ◌+◌, ◌-◌, ◌*◌, ◌≤◌, ◌<◌}
-use Rattle.std.proofs.Math.Nat.{add_comm, suc-mul}
-use native.Mathlib.Omega.{arith}
-use Rattle.std.specs.Prelude.{List, [], ◌∷◌, ◌++◌, ◌≡◌, take, drop, replicate}
-use Rattle.std.proofs.Common.{append_assoc, append-nil, ◌∙◌, length-append, take_at, drop_at}
-use Rattle.std.proofs.Math.ListN.{length}
+use Rattle.std.specs.Prelude.{ℕ, suc, ◌+◌, ◌-◌, ◌*◌, ◌≤◌, ◌<◌, List, [], ◌∷◌, ◌++◌, ◌≡◌, length, take, drop, replicate}
+use Rattle.std.proofs.Common.{arith, ◌∙◌, add_comm, suc-mul, append_assoc, append-nil, length-append, take_at, drop_at}
 use Rattle.std.proofs.lemmas.List.{length-replicate, replicate-append-replicate}
 use Rattle.std.proofs.lemmas.List.Edits.{sets, sets-eq}
 use Rattle.scope.specs.Words.{flat, room}

@@ -3,20 +3,12 @@
 use Rattle.std.proofs.Common.{ℕ, ◌≡◌, ◌≤◌, ◌<◌, ◌-◌, arith, sym, ap, ◌∙◌}
 use Rattle.std.proofs.Math.Bool.{not}
 use Rattle.scope.specs.Sheet.{Sheet, Among, points}
-use Rattle.circuit.specs.Laws.Points.{at_switch, at_fault_lem, is_gate, names_before, at_gate}
+use Rattle.circuit.specs.Laws.Points.{is_gate, names_before, at_gate}
 use Rattle.circuit.proofs.point.+truth.Goals as goal
 
 -- a point before p is below the measure, p, and a point of the sheet
 before : (t : Sheet) (m p q : ℕ) → p ≡ m → p ≤ points t → Among (p - 1) q → (q < m) × Among (points t) q
 before t m p q e l n = (omega arith, (omega arith, omega arith))
-
-pub returns-then-point-a : goal.returns-then-point-a
-returns-then-point-a t c =
-    c.switch_on.ensures ∙ at_switch c.args.sheet.now c.counts-counts.ensures.counts c.args.plan.0 c.args.pattern.0 c.args.point (c.requires.0, c.if-point-a.true)
-
-pub returns-then-point-inputs : goal.returns-then-point-inputs
-returns-then-point-inputs t c =
-    c.fault_on.ensures ∙ at_fault_lem c.args.sheet.now c.counts-counts.ensures.counts c.args.plan.0 c.args.pattern.0 c.args.point c.if-point-a.false c.if-point-inputs.true
 
 pub truth-requires : goal.truth-requires
 truth-requires t c =

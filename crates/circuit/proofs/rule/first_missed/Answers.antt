@@ -1,6 +1,5 @@
 -- The search finds the first pattern that is not passed, or finds that all are.
-use Rattle.std.proofs.Common.{◌≡◌, ◌^◌, true, false, rules, ap, ◌∙◌}
-use borrow.Author.Tests.{tests}
+use Rattle.std.proofs.Common.{◌≡◌, ◌^◌, true, false, rules, tests, ap, ◌∙◌}
 use Rattle.std.proofs.lemmas.Iterator.{first_from_Range}
 use Rattle.scope.specs.Meaning.{patterns, passes}
 use Rattle.circuit.specs.Laws.Patterns.{missed_found}

@@ -4,4 +4,4 @@ use Rattle.circuit.specs.Laws.Wishes.{first}
 use Rattle.circuit.proofs.wish.cost.Given as goal
 
 abbrev pub invariant-loop-i : goal.invariant-loop-i
-invariant-loop-i l = (l.count ≤ l.i) × (l.count ≡ first l.sheet l.plan.0 l.i)
+invariant-loop-i l = (l.count ≤ l.i) × (l.count ≡ first l.sheet l.fn.plan.0 l.i)

@@ -1,6 +1,5 @@
 -- The words before the place found are below the bound, and all are where none is found.
-use Rattle.std.proofs.Common.{◌<◌, ◌≤◌, rules}
-use borrow.Author.Tests.{tests}
+use Rattle.std.proofs.Common.{◌<◌, ◌≤◌, rules, tests}
 use Rattle.std.proofs.lemmas.Iterator.{YieldsList-from_slice, IsFirst-from_position}
 use Rattle.jobs.specs.Laws.Jobs.{high_found}
 use Rattle.jobs.proofs.answer.first_high.Goals as goal

@@ -1,6 +1,5 @@
 -- The list is passed when each of its patterns is.
-use Rattle.std.proofs.Common.{rules, ◌∙◌}
-use borrow.Author.Tests.{tests}
+use Rattle.std.proofs.Common.{rules, tests, ◌∙◌}
 use Rattle.std.proofs.lemmas.Iterator.{YieldsList-from_slice}
 use Rattle.std.proofs.lemmas.Iterator.Search.{all_from_yields_List}
 use Rattle.scope.specs.Meaning.{passes}

@@ -1,14 +1,10 @@
 -- Where there is room the entry takes the first free place, which lies within the words, and the count goes up.
 use Rattle.std.specs.Prelude.{set}
-use Rattle.std.proofs.Common.{ℕ, ◌+◌, ◌*◌, ◌≤◌, ◌≡◌, arith, ap, length, length-drop, length-take-le, lt-ltb, le-ltb, slice_index_or}
+use Rattle.std.proofs.Common.{ℕ, ◌+◌, ◌*◌, ◌≤◌, ◌≡◌, arith, ap, length, length-drop, length-take-le, lt-ltb, slice_index_or}
 use Rattle.std.proofs.Math.Nat.{suc-mul, mul-le-mul_right}
 use Rattle.scope.specs.Words.{word_count}
 use Rattle.words.proofs.Parts.{part_sets}
 use Rattle.words.proofs.table.push.Goals as goal
-
-pub returns-then-table-n : goal.returns-then-table-n
-returns-then-table-n g c =
-    rw (le-ltb (slice_index_or c.args.words.now c.args.table.count 0) c.args.table.most (omega (arith, c.if-table-n.true)))
 
 pub returns : goal.returns
 returns g c =
