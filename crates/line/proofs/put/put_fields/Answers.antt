@@ -19,7 +19,7 @@ loop-i-preserved c =
     let n = length-map c.args.numbers.now number_from in
     let h = c.loop-i-test.true in
     next_field c.args.out.now 0 (numbers_from c.args.numbers.now) c.requires.fit (omega (arith, n, c.requires.whole)) c.loop-i.i c.loop-i.out _ c.loop-i.invariant (omega (arith, h, n))
-        (columns_put c.args.numbers.now c.loop-i.i c.requires.fit h c.loop-i.out _ _ (omega arith) (c.copy_from_slice.ensures.after ∙ c.field_bytes.ensures))
+    (columns_put c.args.numbers.now c.loop-i.i c.requires.fit h c.loop-i.out _ _ (omega arith) (c.copy_from_slice.ensures.after ∙ c.field_bytes.ensures))
 
 pub returns : goal.returns
 returns c =
