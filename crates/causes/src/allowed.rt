@@ -1,19 +1,14 @@
 // What may stand in the fields of a line: the tests of the scope, over numbers.
 ghost use Rattle.std.specs.Prelude.{◌≡◌, ◌&&◌, ◌≤◌, length, take, drop};
+ghost use Rattle.std.specs.List.{list_all};
 ghost use Rattle.scope.specs.Sheet.{most_switches, most_faults, most_literals};
-ghost use Rattle.scope.specs.Causes.{is, up_to, point, literal, zeros, literals, at};
+ghost use Rattle.scope.specs.Causes.{is, up_to, point, literal, zeros, literals};
 ghost use Rattle.field.specs.Columns.{number_from};
 ghost use Rattle.line.specs.Lines.{numbers_from};
+ghost use Rattle.causes.specs.Tests.{point_test, are_points};
 
 use field::Number;
 use words::limit::{MOST_FAULTS, MOST_LITERALS, MOST_SWITCHES};
-
-// Whether x is k.
-pub fn is_number(x: Number, k: usize) -> bool
-    ensures { result ≡ is k (number_from x) }
-{
-    !x.minus && x.size as usize == k
-}
 
 fn is_up_to(x: Number, m: u32) -> bool
     ensures { result ≡ up_to m (number_from x) }
@@ -40,11 +35,17 @@ fn is_literal(x: Number, a: u32) -> bool
     x.size <= a && 0 < x.size
 }
 
+fn is_zero(x: Number) -> bool
+    ensures { result ≡ is 0 (number_from x) }
+{
+    x == Number::from(0)
+}
+
 // Whether these fields hold 0.
 pub fn are_unused(xs: &[Number]) -> bool
     ensures { result ≡ zeros (numbers_from xs.now) }
 {
-    xs.iter().all(|x| is_number(*x, 0))
+    xs.iter().all(|x| is_zero(*x))
 }
 
 // Whether literals of a switches come first and zeros fill up.
@@ -52,7 +53,7 @@ pub fn are_literals(xs: &[Number], a: u32) -> bool
     ensures { result ≡ literals a (numbers_from xs.now) }
 {
     for (i, x) in xs.iter().enumerate() {
-        if is_number(*x, 0) {
+        if is_zero(*x) {
             return are_unused(&xs[i + 1..]);
         }
         if !is_literal(*x, a) {
@@ -71,22 +72,18 @@ pub fn is_wish(xs: &[Number], a: u32) -> bool
     are_literals(first, a) && are_unused(rest)
 }
 
-// One point of m, and nothing else.
-pub fn is_one_point(xs: &[Number], m: u32) -> bool
-    ensures { result ≡ (point m (at (numbers_from xs.now) 0) && zeros (drop 1 (numbers_from xs.now))) }
+fn are_all_points(xs: &[Number], m: u32) -> bool
+    ensures { result ≡ list_all (point_test m) xs.now }
 {
-    match xs {
-        [x, rest @ ..] => is_point(*x, m) && are_unused(rest),
-        [] => false,
-    }
+    xs.iter().all(|x| is_point(*x, m))
 }
 
-// Two points of m, and nothing else.
-pub fn are_two_points(xs: &[Number], m: u32) -> bool
-    ensures { result ≡ ((point m (at (numbers_from xs.now) 0) && point m (at (numbers_from xs.now) 1)) && zeros (drop 2 (numbers_from xs.now))) }
+// K points of m, and nothing else.
+#[tactic(auto, using(crate::proofs::Fields::all_points, crate::proofs::Fields::others_unused))]
+pub fn are_points<const K: usize>(xs: &[Number], m: u32) -> bool
+    requires { K ≤ length xs.now }
+    ensures { result ≡ (are_points m K (numbers_from xs.now) && zeros (drop K (numbers_from xs.now))) }
 {
-    match xs {
-        [x, y, rest @ ..] => is_point(*x, m) && is_point(*y, m) && are_unused(rest),
-        _ => false,
-    }
+    let (first, rest) = xs.split_at(K);
+    are_all_points(first, m) && are_unused(rest)
 }

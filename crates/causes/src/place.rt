@@ -1,15 +1,18 @@
 // The causes to turn a line down, tested in the order of the scope's tests: a function for each kind of line tells the refusal of the
-// first test that is not met. t in a promise is what the lines before say, of which the code has the counts.
+// first test that is not met. t in a promise is what the lines before say, of which the code has the counts: a ghost field of `Place`
+// would hold a fact, and no sheet.
 ghost use Rattle.std.specs.Prelude.{◌≡◌, ◌≤◌, not, ◌&&◌, eqb};
 ghost use Rattle.scope.specs.Sheet.{Sheet, points, H as Head, R as Rule, W as Wish, Z as End};
-ghost use Rattle.scope.specs.Causes.{gate_tests, tests};
+ghost use Rattle.scope.specs.Causes.{gate_tests, is, tests};
 ghost use Rattle.words.specs.Refusals.{Tested};
 ghost use Rattle.words.specs.Entries.{counts_from};
+ghost use Rattle.field.specs.Columns.{number_from};
 ghost use Rattle.line.specs.Lines.{letter_from, numbers_from};
 ghost use Rattle.causes.specs.Counts.{Few};
 ghost use Rattle.causes.specs.Tests.{tests_from};
 
-use crate::allowed::{are_two_points, are_unused, is_head, is_number, is_one_point, is_wish};
+use crate::allowed::{are_points, are_unused, is_head, is_wish};
+use field::Number;
 use line::{Letter, Line};
 use words::counts::Counts;
 use words::limit::{MOST_GATES, MOST_RULES, MOST_WISHES};
@@ -104,7 +107,10 @@ impl<const N: usize> Place<N> {
         first_fault(&[
             (self.is_before_wishes(), Refusal::Order),
             (self.before.rules < MOST_RULES, Refusal::Limit),
-            (is_one_point(&line.numbers, self.points()), Refusal::Fields),
+            (
+                are_points::<1>(&line.numbers, self.points()),
+                Refusal::Fields,
+            ),
         ])
     }
 
@@ -122,6 +128,13 @@ impl<const N: usize> Place<N> {
         ])
     }
 
+    // Whether x is how many lines stand before. There may be more than a `Number` holds, so that it is no equality of numbers.
+    fn is_count(&self, x: Number) -> bool
+        ensures { result ≡ is self.now.index (number_from x) }
+    {
+        !x.minus && x.size as usize == self.index
+    }
+
     #[tactic(auto, unfolding(scope::specs::Causes::tests))]
     fn end_fault(&self, line: &Line<N>) -> Result<(), Refusal>
         ensures { (t : Sheet) → self.now.before ≡ counts_from t → Tested (tests t self.now.index self.now.last End (numbers_from line.now.numbers)) result }
@@ -130,11 +143,11 @@ impl<const N: usize> Place<N> {
         first_fault(&[
             (self.is_last(), Refusal::Order),
             (are_unused(&numbers[1..]), Refusal::Fields),
-            (is_number(numbers[0], self.index), Refusal::Count),
+            (self.is_count(numbers[0]), Refusal::Count),
         ])
     }
 
-    // The refusal of the first test that the line does not meet.
+    // The refusal of the first test that the line does not meet. Each letter has tests of its own, so that a closure would say the same arm.
     #[tactic(auto, unfolding(scope::specs::Causes::tests))]
     pub fn fault(&self, line: &Line<N>) -> Result<(), Refusal>
         ensures { (t : Sheet) → self.now.before ≡ counts_from t → Tested (tests t self.now.index self.now.last (letter_from line.now.letter) (numbers_from line.now.numbers)) result }
@@ -142,9 +155,9 @@ impl<const N: usize> Place<N> {
         let numbers = &line.numbers[..];
         match line.letter {
             Letter::Head => self.head_fault(line),
-            Letter::Not => self.gate_fault(is_one_point(numbers, self.points())),
-            Letter::And => self.gate_fault(are_two_points(numbers, self.points())),
-            Letter::Or => self.gate_fault(are_two_points(numbers, self.points())),
+            Letter::Not => self.gate_fault(are_points::<1>(numbers, self.points())),
+            Letter::And => self.gate_fault(are_points::<2>(numbers, self.points())),
+            Letter::Or => self.gate_fault(are_points::<2>(numbers, self.points())),
             Letter::Rule => self.rule_fault(line),
             Letter::Wish => self.wish_fault(line),
             Letter::End => self.end_fault(line),

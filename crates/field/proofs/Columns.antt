@@ -1,20 +1,10 @@
 -- A field read column by column is the number that prints as its columns, and stops where they begin none. Assumes nothing.
-use Prim.Native.Nat.{ℕ, zero, suc, ◌+◌, ◌-◌, ◌*◌, ◌/◌, ◌%◌, ◌^◌, ◌≤◌, ◌<◌}
+use Rattle.std.specs.Prelude.{ℕ, zero, suc, ◌+◌, ◌-◌, ◌*◌, ◌/◌, ◌%◌, ◌^◌, ◌≤◌, ◌<◌, Bool, true, false, cond, ◌&&◌, List, [], ◌∷◌, ◌++◌, ◌↔◌, ◌≢◌, ◌⊎◌, ◌≡◌, refl, eqb, leb, ltb, length, get_or, take, drop, Option, Some, None, Err}
 use Prim.Native.Char.{code}
-use native.Mathlib.Nat.{pow-suc, add-zero, zero-add, suc-add}
-use native.Mathlib.Numerals.{add-one}
-use native.Mathlib.Omega.{arith}
-use mathlib.Core.Bool.{Bool, true, false, cond, ◌&&◌}
-use mathlib.Core.List.{List, [], ◌∷◌, ◌++◌, append_assoc, append-nil}
-use mathlib.Core.Logic.{◌↔◌, ◌≢◌, ◌⊎◌, inl, inr}
-use mathlib.Core.Option as math
-use mathlib.Core.Option.{none-ne-some}
-use mathlib.Core.Path.{◌≡◌, refl, sym, ap, ap₂, ◌∙◌}
-use lib.Dec.{eqb, leb, ltb}
-use lib.ListN.{length, get_or, take, drop, drop_of_length-le, length-append, length-drop, take-append-drop}
-use lib.Seq.{take-suc, take_all, length-take-le}
-use borrow.Author.Tests.{eqb-true, eqb-false, ne_eqb, lt-ltb, le-leb, leb-true}
-use Rattle.std.specs.Prelude.{Option, Some, None, Err}
+use Rattle.std.proofs.Common.{pow-suc, add-zero, zero-add, suc-add, add-one, arith, append_assoc, append-nil, inl, inr, sym, ap, ap₂, ◌∙◌, drop_of_length-le, length-append, length-drop, take-append-drop, take-suc, take_all, length-take-le, eqb-true, ne_eqb, lt-ltb, le-leb, leb-true}
+use Rattle.std.proofs.lemmas.Bool.{eqb-false}
+use Rattle.std.proofs.Math.Option as math
+use Rattle.std.proofs.Math.Option.{none-ne-some}
 use Rattle.scope.specs.Sheet.{number, field_size, digit, decimal, signed, field, fits}
 use Rattle.scope.specs.Sheet as scope
 use Rattle.scope.specs.Reading.{full, formed, field_of, field_begins, Stop}
@@ -22,9 +12,10 @@ use Rattle.scope.proofs.Laws.Tests.{both, clash, same_some}
 use Rattle.scope.proofs.Laws.Fields.{by_digits, length_field, Fitting, fitting, field_iff}
 use Rattle.scope.proofs.Laws.Digits.{spaces, spaces_snoc, zero_shown, columns_of, Shown, shown_field, Part, part_digit, shown_part, spaces_part, blank_part}
 use Rattle.scope.proofs.Laws.Beginnings.{part_begins, field_begins_lem}
+use Rattle.field.specs.declared.Number.{Number}
 use Rattle.field.specs.declared.Scan.{Scan}
-use Rattle.field.specs.declared.Scan.TheVariants.{Blank, Minus, Number}
-use Rattle.field.specs.Columns.{with_digit, next, step, walk, FieldRead}
+use Rattle.field.specs.declared.Scan.TheVariants.{Blank, Minus, Digits}
+use Rattle.field.specs.Columns.{digits, with_digit, next, step, walk, FieldRead}
 
 -- ---- what a walk has read
 
@@ -32,8 +23,8 @@ use Rattle.field.specs.Columns.{with_digit, next, step, walk, FieldRead}
 data Seen (p : List ℕ) (left : ℕ) : Option Scan → Type 0 where
   blank : (k : ℕ) → p ≡ spaces k → Seen p left (Some Blank)
   minus : (k : ℕ) → p ≡ spaces k ++ code "-" ∷ [] → Seen p left (Some Minus)
-  alone : (k : ℕ) → p ≡ spaces k ++ code "0" ∷ [] → left ≡ 0 → Seen p left (Some (Number false 0))
-  shown : {m : Bool} {n : ℕ} → Shown m n p → Seen p left (Some (Number m n))
+  alone : (k : ℕ) → p ≡ spaces k ++ code "0" ∷ [] → left ≡ 0 → Seen p left (Some (digits false 0))
+  shown : {m : Bool} {n : ℕ} → Shown m n p → Seen p left (Some (digits m n))
   lost : Seen p left None
 
 by : {p : List ℕ} {left : ℕ} (t : Bool) {x y : Option Scan} → (t ≡ true → Seen p left x) → (t ≡ false → Seen p left y) → Seen p left (cond t x y)
@@ -41,10 +32,10 @@ by true f g = f refl
 by false f g = g refl
 
 module _ (p : List ℕ) (b left : ℕ) where
-  seen_digit : (m : Bool) (n : ℕ) → Part m n p → (code "0" ≤ b → 0 < n * 10 + (b - code "0")) → Seen (p ++ b ∷ []) left (with_digit m n b)
+  seen_digit : (m : Bool) (n : ℕ) → Part m n p → (code "0" ≤ b → 0 < n * 10 + (b - code "0")) → Seen (p ++ b ∷ []) left (with_digit (record { minus = m; size = n }) b)
   seen_digit m n h pos = by (ltb n 10000 && (leb (code "0") b && leb b (code "9"))) fine (λ t. lost)
     where
-      fine : (ltb n 10000 && (leb (code "0") b && leb b (code "9"))) ≡ true → Seen (p ++ b ∷ []) left (Some (Number m (n * 10 + (b - code "0"))))
+      fine : (ltb n 10000 && (leb (code "0") b && leb b (code "9"))) ≡ true → Seen (p ++ b ∷ []) left (Some (digits m (n * 10 + (b - code "0"))))
       fine t =
           let (_, u) = both (ltb n 10000) (leb (code "0") b && leb b (code "9")) t in
           let (v, w) = both (leb (code "0") b) (leb b (code "9")) u in
@@ -66,8 +57,8 @@ module _ (p : List ℕ) (b left : ℕ) where
       begun : (a : ℕ) → eqb b a ≡ true → p ++ b ∷ [] ≡ spaces k ++ a ∷ []
       begun a t = ap₂ (λ s c. s ++ c ∷ []) e (eqb-true b a t)
   seen_next (Some Minus) (minus k e) = by (eqb b (code "0")) (λ t. lost) (λ t. seen_digit true 0 (spaces_part k true p e) (not_zero t))
-  seen_next (Some (Number m n)) (alone k e z) = absurd (omega arith)
-  seen_next (Some (Number m n)) (shown h) = seen_digit m n (shown_part m n p h) (λ l. omega (arith, h.some))
+  seen_next (Some (Digits x)) (alone k e z) = absurd (omega arith)
+  seen_next (Some (Digits x)) (shown {m} {n} h) = seen_digit m n (shown_part m n p h) (λ l. omega (arith, h.some))
   seen_next None lost = lost
 
 seen_walk : (s p : List ℕ) (left : ℕ) (o : Option Scan) → Seen p (length s + left) o → Seen (p ++ s) left (walk o s left)
@@ -84,12 +75,12 @@ seen p left = seen_walk p [] left (Some Blank) (blank 0 refl)
 
 -- ---- five columns that hold a number
 
-seen_field : (p : List ℕ) (m : Bool) (n : ℕ) → length p ≡ field_size → Seen p 0 (Some (Number m n)) → (p ≡ field (number m n)) × (fits (number m n) ≡ true)
+seen_field : (p : List ℕ) (m : Bool) (n : ℕ) → length p ≡ field_size → Seen p 0 (Some (digits m n)) → (p ≡ field (number m n)) × (fits (number m n) ≡ true)
 unfolding field
 seen_field p m n l (alone k e z) = (rw zero_shown (columns_of p l k (code "0" ∷ []) e).0, refl)
 seen_field p m n l (shown h) = shown_field p l m n h
 
-read_sound : (s : List ℕ) (m : Bool) (n : ℕ) → length s ≡ field_size → read s 0 ≡ Some (Number m n) → field_of s ≡ math.some (number m n)
+read_sound : (s : List ℕ) (m : Bool) (n : ℕ) → length s ≡ field_size → read s 0 ≡ Some (digits m n) → field_of s ≡ math.some (number m n)
 read_sound s m n l e = (field_iff s (number m n)).1 (seen_field s m n l (rw e at (seen s 0)))
 
 -- ---- what is printed is read
@@ -99,63 +90,63 @@ unfolding walk
 walk_spaces zero r = refl
 walk_spaces (suc k) r = walk_spaces k r
 
-next_digit : (m : Bool) (n d : ℕ) → n < 10000 → d < 10 → with_digit m n (digit d) ≡ Some (Number m (n * 10 + d))
+next_digit : (m : Bool) (n d : ℕ) → n < 10000 → d < 10 → with_digit (record { minus = m; size = n }) (digit d) ≡ Some (digits m (n * 10 + d))
 next_digit m n d h g =
     let e : digit d - code "0" ≡ d = omega arith in
     rw (lt-ltb n 10000 h, le-leb (code "0") (digit d) (omega arith), le-leb (digit d) (code "9") (omega arith), e)
 
 -- where a number of one digit is read, one of more is
-module _ (st : Scan) (m : Bool) (one : (d left : ℕ) → 0 < d → d < 10 → next st (digit d) left ≡ Some (Number m d)) where
-  walk_digits : (w n : ℕ) (r : List ℕ) → 0 < n → n < 10 ^ w → n < 100000 → walk (Some st) (decimal w n ++ r) 0 ≡ walk (Some (Number m n)) r 0
+module _ (st : Scan) (m : Bool) (one : (d left : ℕ) → 0 < d → d < 10 → next st (digit d) left ≡ Some (digits m d)) where
+  walk_digits : (w n : ℕ) (r : List ℕ) → 0 < n → n < 10 ^ w → n < 100000 → walk (Some st) (decimal w n ++ r) 0 ≡ walk (Some (digits m n)) r 0
   unfolding walk
   walk_digits zero n r pos h g = absurd (omega arith)
-  walk_digits (suc w) n r pos h g = by_digits (λ ds. walk (Some st) (ds ++ r) 0 ≡ walk (Some (Number m n)) r 0) w n
+  walk_digits (suc w) n r pos h g = by_digits (λ ds. walk (Some st) (ds ++ r) 0 ≡ walk (Some (digits m n)) r 0) w n
       (λ l. ap (λ q. walk q r 0) (one n (length r + 0) pos l))
-      (λ l. ap (λ s. walk (Some st) s 0) (append_assoc (decimal w (n / 10)) (digit (n % 10) ∷ []) r) ∙ walk_digits w (n / 10) (digit (n % 10) ∷ r) (omega arith) (omega (arith, pow-suc 10 w)) (omega arith) ∙ ap (λ q. walk q r 0) (next_digit m (n / 10) (n % 10) (omega arith) (omega arith) ∙ ap (λ k. Some (Number m k)) (omega arith)))
+      (λ l. ap (λ s. walk (Some st) s 0) (append_assoc (decimal w (n / 10)) (digit (n % 10) ∷ []) r) ∙ walk_digits w (n / 10) (digit (n % 10) ∷ r) (omega arith) (omega (arith, pow-suc 10 w)) (omega arith) ∙ ap (λ q. walk q r 0) (next_digit m (n / 10) (n % 10) (omega arith) (omega arith) ∙ ap (λ k. Some (digits m k)) (omega arith)))
 
-after_spaces : (d left : ℕ) → 0 < d → d < 10 → next Blank (digit d) left ≡ Some (Number false d)
-after_spaces d left h g = rw (ne_eqb (digit d) (code " ") (λ e. omega arith), ne_eqb (digit d) (code "-") (λ e. omega arith), ne_eqb (digit d) (code "0") (λ e. omega arith)) (next_digit false 0 d (omega arith) g ∙ ap (λ k. Some (Number false k)) (omega arith))
+after_spaces : (d left : ℕ) → 0 < d → d < 10 → next Blank (digit d) left ≡ Some (digits false d)
+after_spaces d left h g = rw (ne_eqb (digit d) (code " ") (λ e. omega arith), ne_eqb (digit d) (code "-") (λ e. omega arith), ne_eqb (digit d) (code "0") (λ e. omega arith)) (next_digit false 0 d (omega arith) g ∙ ap (λ k. Some (digits false k)) (omega arith))
 
-after_minus : (d left : ℕ) → 0 < d → d < 10 → next Minus (digit d) left ≡ Some (Number true d)
-after_minus d left h g = rw (ne_eqb (digit d) (code "0") (λ e. omega arith)) (next_digit true 0 d (omega arith) g ∙ ap (λ k. Some (Number true k)) (omega arith))
+after_minus : (d left : ℕ) → 0 < d → d < 10 → next Minus (digit d) left ≡ Some (digits true d)
+after_minus d left h g = rw (ne_eqb (digit d) (code "0") (λ e. omega arith)) (next_digit true 0 d (omega arith) g ∙ ap (λ k. Some (digits true k)) (omega arith))
 
-walk_ends : (st : Scan) (m : Bool) (n : ℕ) → walk (Some st) (decimal field_size n ++ []) 0 ≡ walk (Some (Number m n)) [] 0 → walk (Some st) (decimal field_size n) 0 ≡ Some (Number m n)
+walk_ends : (st : Scan) (m : Bool) (n : ℕ) → walk (Some st) (decimal field_size n ++ []) 0 ≡ walk (Some (digits m n)) [] 0 → walk (Some st) (decimal field_size n) 0 ≡ Some (digits m n)
 unfolding walk
 walk_ends st m n e = rw append-nil at e
 
-walk_plain : (n : ℕ) → Fitting false n → read (decimal field_size n) 0 ≡ Some (Number false n)
+walk_plain : (n : ℕ) → Fitting false n → read (decimal field_size n) 0 ≡ Some (digits false n)
 unfolding walk
 walk_plain n f = go (eqb n 0) refl
   where
-    go : (t : Bool) → eqb n 0 ≡ t → read (decimal field_size n) 0 ≡ Some (Number false n)
+    go : (t : Bool) → eqb n 0 ≡ t → read (decimal field_size n) 0 ≡ Some (digits false n)
     go true z = rw (eqb-true n 0 z, zero_shown)
     go false z = let p : n ≢ 0 = eqb-false n 0 z in walk_ends Blank false n (walk_digits Blank false after_spaces field_size n [] (omega arith) f.small f.small)
 
-walk_minus : (n : ℕ) → Fitting true n → read (code "-" ∷ decimal field_size n) 0 ≡ Some (Number true n)
+walk_minus : (n : ℕ) → Fitting true n → read (code "-" ∷ decimal field_size n) 0 ≡ Some (digits true n)
 unfolding walk
 walk_minus n f = walk_ends Minus true n (walk_digits Minus true after_minus field_size n [] (f.signed refl).0 f.small f.small)
 
-read_field : (x : scope.Number) → fits x ≡ true → read (field x) 0 ≡ Some (Number x.minus x.size)
+read_field : (x : scope.Number) → fits x ≡ true → read (field x) 0 ≡ Some (digits x.minus x.size)
 unfolding field
 read_field x h = go x.minus x.size (fitting x h)
   where
-    go : (m : Bool) (n : ℕ) → Fitting m n → read (field (number m n)) 0 ≡ Some (Number m n)
+    go : (m : Bool) (n : ℕ) → Fitting m n → read (field (number m n)) 0 ≡ Some (digits m n)
     go true n f = walk_spaces (field_size - length (signed true (decimal field_size n))) (signed true (decimal field_size n)) ∙ walk_minus n f
     go false n f = walk_spaces (field_size - length (decimal field_size n)) (decimal field_size n) ∙ walk_plain n f
 
 -- ---- five bytes are the columns of a number exactly if the walk finds it
 
 found : Option Scan → math.Option scope.Number
-found (Some (Number m n)) = math.some (number m n)
+found (Some (Digits x)) = math.some (number x.minus x.size)
 found (Some Blank) = math.none
 found (Some Minus) = math.none
 found None = math.none
 
-found_number : (o : Option Scan) (x : scope.Number) → found o ≡ math.some x → o ≡ Some (Number x.minus x.size)
+found_number : (o : Option Scan) (x : scope.Number) → found o ≡ math.some x → o ≡ Some (digits x.minus x.size)
 unfolding found
 found_number (Some Blank) x e = absurd (none-ne-some x e)
 found_number (Some Minus) x e = absurd (none-ne-some x e)
-found_number (Some (Number m n)) x e = cc
+found_number (Some (Digits y)) x e = let z : number y.minus y.size ≡ x = cc in ap (λ z. Some (digits z.minus z.size)) z
 found_number None x e = absurd (none-ne-some x e)
 
 read_iff : (s : List ℕ) (x : scope.Number) → length s ≡ field_size → (found (read s 0) ≡ math.some x) ↔ (field_of s ≡ math.some x)
@@ -187,8 +178,8 @@ walk_lost (b ∷ s) left = walk_lost s left
 good_part : (p : List ℕ) (left : ℕ) (st : Scan) → 0 < left → Seen p left (Some st) → (m : Bool) × (n : ℕ) × Part m n p
 good_part p left Blank l (blank k e) = (false, 0, blank_part k p e)
 good_part p left Minus l (minus k e) = (true, 0, spaces_part k true p e)
-good_part p left (Number m n) l (alone k e z) = absurd (omega arith)
-good_part p left (Number m n) l (shown h) = (m, n, shown_part m n p h)
+good_part p left (Digits x) l (alone k e z) = absurd (omega arith)
+good_part p left (Digits x) l (shown {m} {n} h) = (m, n, shown_part m n p h)
 
 module _ (p : List ℕ) (left : ℕ) (l : length p + left ≡ field_size) where
   good_begins : (st : Scan) → 0 < left → read p left ≡ Some st → field_begins p ≡ true
@@ -237,8 +228,8 @@ module _ (t : List ℕ) (five : length t ≡ field_size) where
     whole : read t 0 ≡ Some st
     whole = sym (h ∙ ap (λ j. read (take j t) (field_size - j)) all ∙ ap (λ r. read r 0) (take_all field_size t (omega (arith, five))))
 
-    pub is_number : (m : Bool) (n : ℕ) → st ≡ Number m n → field_of t ≡ math.some (number m n)
-    is_number m n e = read_sound t m n five (whole ∙ ap Some e)
+    pub is_number : (x : Number) → st ≡ Digits x → field_of t ≡ math.some (number x.minus x.size)
+    is_number x e = read_sound t x.minus x.size five (whole ∙ ap Some e)
 
     -- no digit stands in the last: the first four begin a number, and the five are none
     pub ends_bare : (st ≡ Blank) ⊎ (st ≡ Minus) → FieldRead t (Err (record { column = field_size }))

@@ -6,23 +6,27 @@ use Rattle.scope.specs.Sheet as scope
 use Rattle.scope.specs.Sheet.{number, field_size}
 use Rattle.scope.specs.Reading.{field_of, Stop, field_begins}
 use Rattle.field.specs.declared.Scan.{Scan}
-use Rattle.field.specs.declared.Scan.TheVariants.{Blank, Minus, Number}
+use Rattle.field.specs.declared.Scan.TheVariants.{Blank, Minus, Digits}
 use Rattle.field.specs.declared.Number as made
 use Rattle.field.specs.declared.Malformed.{Malformed}
 
+-- the digits of this number so far
+abbrev pub digits : Bool → ℕ → Scan
+digits m n = Digits (record { minus = m; size = n })
+
 -- one more digit, if there is room for it
-abbrev pub with_digit : Bool → ℕ → ℕ → Option Scan
-with_digit m n b = cond (ltb n 10000 && (leb (code "0") b && leb b (code "9"))) (Some (Number m (n * 10 + (b - code "0")))) None
+abbrev pub with_digit : made.Number → ℕ → Option Scan
+with_digit x b = cond (ltb x.size 10000 && (leb (code "0") b && leb b (code "9"))) (Some (digits x.minus (x.size * 10 + (b - code "0")))) None
 
 -- one more byte, with `left` columns after it: a zero stands alone
 abbrev pub next : Scan → ℕ → ℕ → Option Scan
 next Blank b left =
     cond (eqb b (code " ")) (Some Blank)
     (cond (eqb b (code "-")) (Some Minus)
-    (cond (eqb b (code "0")) (cond (eqb left 0) (Some (Number false 0)) None)
-    (with_digit false 0 b)))
-next Minus b left = cond (eqb b (code "0")) None (with_digit true 0 b)
-next (Number m n) b left = with_digit m n b
+    (cond (eqb b (code "0")) (cond (eqb left 0) (Some (digits false 0)) None)
+    (with_digit (record { minus = false; size = 0 }) b)))
+next Minus b left = cond (eqb b (code "0")) None (with_digit (record { minus = true; size = 0 }) b)
+next (Digits x) b left = with_digit x b
 
 -- the bytes s, with `left` columns after them
 abbrev pub step : Option Scan → ℕ → ℕ → Option Scan

@@ -17,13 +17,11 @@ const MINUS: u8 = b'-';
 
 const ZERO: u8 = b'0';
 
-const NINE: u8 = b'9';
-
 // A number below this has room for one more digit.
 const ROOM: u32 = 10000;
 
-// A whole number by sign and size.
-#[derive(Clone, Copy)]
+// A whole number by sign and size. No order is derived: it would put -1 above 1.
+#[derive(Clone, Copy, PartialEq, Eq)]
 pub struct Number {
     pub minus: bool,
     pub size: u32,
@@ -57,15 +55,16 @@ enum Scan {
     Blank,
     // a minus that no digit follows yet
     Minus,
-    // whether the number is below zero, and its size
-    Number(bool, u32),
+    // the digits of this number so far
+    Digits(Number),
 }
 
-fn with_digit(minus: bool, size: u32, b: u8) -> Option<Scan>
-    ensures { result ≡ with_digit minus size b }
+fn with_digit(x: Number, b: u8) -> Option<Scan>
+    ensures { result ≡ with_digit x b }
 {
-    if size < ROOM && ZERO <= b && b <= NINE {
-        return Some(Scan::Number(minus, size * 10 + u32::from(b - ZERO)));
+    if x.size < ROOM && b.is_ascii_digit() {
+        let size = x.size * 10 + u32::from(b - ZERO);
+        return Some(Scan::Digits(Number { size, ..x }));
     }
     None
 }
@@ -73,12 +72,13 @@ fn with_digit(minus: bool, size: u32, b: u8) -> Option<Scan>
 fn after_spaces(b: u8, left: usize) -> Option<Scan>
     ensures { result ≡ next Scan.Blank b left }
 {
+    let zero = Number::from(0);
     match b {
         SPACE => Some(Scan::Blank),
         MINUS => Some(Scan::Minus),
         // a zero stands alone
-        ZERO => (left == 0).then_some(Scan::Number(false, 0)),
-        _ => with_digit(false, 0, b),
+        ZERO => (left == 0).then_some(Scan::Digits(zero)),
+        _ => with_digit(zero, b),
     }
 }
 
@@ -87,7 +87,13 @@ fn after_minus(b: u8, left: usize) -> Option<Scan>
 {
     match b {
         ZERO => None,
-        _ => with_digit(true, 0, b),
+        _ => with_digit(
+            Number {
+                minus: true,
+                size: 0,
+            },
+            b,
+        ),
     }
 }
 
@@ -98,7 +104,7 @@ fn after(scan: Scan, b: u8, left: usize) -> Option<Scan>
     match scan {
         Scan::Blank => after_spaces(b, left),
         Scan::Minus => after_minus(b, left),
-        Scan::Number(minus, size) => with_digit(minus, size, b),
+        Scan::Digits(x) => with_digit(x, b),
     }
 }
 
@@ -115,7 +121,7 @@ pub fn field_at(columns: &[u8]) -> Result<Number, Malformed>
         scan = next;
     }
     match scan {
-        Scan::Number(minus, size) => Ok(Number { minus, size }),
+        Scan::Digits(x) => Ok(x),
         // a field ends in a digit
         Scan::Blank | Scan::Minus => Err(Malformed { column: FIELD_SIZE }),
     }

@@ -1,18 +1,10 @@
 -- Fields read one after another: those read so far, and what is left of them. Assumes nothing.
-use Prim.Native.Nat.{ℕ, suc, ◌+◌, ◌-◌, ◌*◌, ◌≤◌, ◌<◌}
+use Rattle.std.specs.Prelude.{ℕ, suc, ◌+◌, ◌-◌, ◌*◌, ◌≤◌, ◌<◌, Bool, true, false, List, [], ◌∷◌, ◌++◌, ◌≢◌, ◌≡◌, refl, eqb, length, get_or, take, drop, set, Ok, Err}
 use Prim.Native.Char.{code}
-use native.Mathlib.Nat.{sub-zero}
-use native.Mathlib.Numerals.{add-one}
-use native.Mathlib.Omega.{arith}
-use mathlib.Core.Bool.{Bool, true, false, and-true}
-use mathlib.Core.List.{List, [], ◌∷◌, ◌++◌, append_assoc, append-nil}
-use mathlib.Core.Logic.{◌≢◌}
-use mathlib.Core.Option.{Option, none, some}
-use mathlib.Core.Path.{◌≡◌, refl, sym, ap, ap₂, subst, subst₂, ◌∙◌}
-use lib.Dec.{eqb}
-use lib.ListN.{length, get_or, take, drop, drop_of_length-le, set, length-drop, length-set}
-use lib.Seq.{take-suc-set, take_all, drop-drop, drop-cons}
-use Rattle.std.specs.Prelude.{Ok, Err}
+use Rattle.std.proofs.Common.{add-one, arith, append_assoc, append-nil, sym, ap, ap₂, subst, subst₂, ◌∙◌, drop_of_length-le, length-drop, length-set, take-suc-set, take_all, drop-drop, drop-cons, eq-eqb, ne_eqb}
+use Rattle.std.proofs.Math.Nat.{sub-zero}
+use Rattle.std.proofs.Math.Bool.{and-true}
+use Rattle.std.proofs.Math.Option.{Option, none, some}
 use Rattle.std.proofs.lemmas.List.{map-append}
 use Rattle.scope.specs.Sheet.{field_size}
 use Rattle.scope.specs.Sheet as scope
@@ -22,7 +14,6 @@ use Rattle.field.specs.Columns.{number_from, FieldRead}
 use Rattle.field.specs.declared.Number.{Number}
 use Rattle.field.specs.declared.Malformed.{Malformed}
 use Rattle.line.specs.Lines.{numbers_from, FieldsRead}
-use borrow.Author.Tests.{eq-eqb, ne_eqb}
 
 -- those read, and then those left
 abbrev after : List scope.Number → Option (List scope.Number) → Option (List scope.Number)

@@ -4,11 +4,12 @@ use Rattle.std.proofs.Common.{add-one, sym, ap, ap₂, ◌∙◌}
 use Rattle.std.proofs.lemmas.Slice.{first_rest}
 use Rattle.std.proofs.Math.Option.{none, some}
 use Rattle.scope.specs.Sheet.{line}
-use Rattle.scope.specs.Reading.{fields_of, joined, line_of, formed, column_of}
+use Rattle.scope.specs.Reading.{letter_of, fields_of, joined, line_of, formed, column_of}
 use Rattle.scope.proofs.Laws.Beginnings.{some_formed, letter_stop, after_letter, stop_column}
 use Rattle.field.specs.declared.Number.{Number}
 use Rattle.field.specs.declared.Malformed.{Malformed}
 use Rattle.line.specs.declared.letter.Letter.{Letter}
+use Rattle.line.specs.Laws.Lines.{joined_none}
 use Rattle.line.specs.Lines.{letter_from, numbers_from, LetterRead, FieldsRead}
 
 module _ (n : ℕ) (s : List ℕ) (some_byte : 0 < length s) where
@@ -35,6 +36,6 @@ module _ (n : ℕ) (s : List ℕ) (some_byte : 0 < length s) where
   pub no_fields : (c : Letter) (m : Malformed) → LetterRead b (Ok c) → FieldsRead n rest (Err m) → (line_of n s ≡ none) × (column_of n s ≡ some (m.column + 1))
   unfolding line_of
   no_fields c m e (f, l, h) = (
-    ap (line_of n) (sym parts) ∙ ap₂ joined e f,
+    ap (line_of n) (sym parts) ∙ ap (joined (letter_of b)) f ∙ joined_none (letter_of b),
     ap (column_of n) (sym parts) ∙ rw add-one (stop_column n (b ∷ rest) (suc m.column) (after_letter n b rest m.column (some_formed e) h)),
   )

@@ -1,15 +1,14 @@
 -- One more line in the words of a sheet, for each letter. Assumes nothing.
 use Rattle.std.specs.Prelude.{ℕ, List, ◌≡◌, false, get_or, take}
-use Rattle.std.proofs.Common.{ap}
-use Rattle.std.proofs.Math.ListN.{get_or-map}
+use Rattle.std.proofs.Common.{sym, ap}
 use Rattle.scope.specs.Sheet.{line, H, N, A, O, R, W, most_literals}
 use Rattle.scope.specs.Sheet as scope
 use Rattle.scope.specs.Causes.{at, clause, make}
 use Rattle.scope.specs.Words.{wish_words}
-use Rattle.field.specs.Columns.{number_from}
 use Rattle.field.specs.declared.Number.{Number}
 use Rattle.words.specs.Entries.{HeadPut, GatePut, RulePut, WishPut}
 use Rattle.line.specs.Lines.{numbers_from}
+use Rattle.line.specs.Laws.Numbers.{number_at}
 use Rattle.sheet.specs.Steps.{Takes}
 
 module _ (ys : List Number) (s u : List ℕ) where
@@ -21,7 +20,7 @@ module _ (ys : List Number) (s u : List ℕ) where
   size i = (get_or ys i (record { minus = false; size = 0 })).size
 
   size_is : (i : ℕ) → (at xs i).size ≡ size i
-  size_is i = ap (λ x. x.size) (get_or-map number_from ys i (record { minus = false; size = 0 }))
+  size_is i = ap (λ x. x.size) (sym (number_at i ys))
 
   pub head-taken : HeadPut (size 0) (size 1) s u → Takes (line H xs) s u
   unfolding make

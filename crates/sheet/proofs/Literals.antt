@@ -1,14 +1,6 @@
 -- The literals of a wish whose fields are right. Assumes nothing.
-use Prim.Native.Nat.{ℕ, zero, suc, ◌≤◌, ◌<◌}
-use native.Mathlib.Omega.{arith}
-use mathlib.Core.Bool.{Bool, true, false, cond, ◌&&◌}
-use mathlib.Core.List.{List, [], ◌∷◌}
-use mathlib.Core.Path.{◌≡◌, refl, sym, ap, ◌∙◌}
-use lib.Dec.{leb, ltb}
-use lib.ListN.{get_or, take}
-use lib.Seq.{get_or-take}
-use Rattle.std.proofs.Math.ListN.{get_or-map}
-use borrow.Author.Tests.{leb-true}
+use Rattle.std.specs.Prelude.{ℕ, zero, suc, ◌≤◌, ◌<◌, Bool, true, false, cond, ◌&&◌, List, [], ◌∷◌, ◌≡◌, refl, leb, ltb, get_or, take}
+use Rattle.std.proofs.Common.{arith, sym, ap, ◌∙◌, leb-true}
 use Rattle.scope.specs.Sheet.{Number, plus, most_literals}
 use Rattle.scope.specs.Causes.{is, literal, zeros, literals, clause, at}
 use Rattle.scope.proofs.Laws.Tests.{both}
@@ -16,6 +8,7 @@ use Rattle.scope.proofs.Laws.Steps.{is_plus}
 use Rattle.scope.specs.Words.{literal_code, literal_at}
 use Rattle.field.specs.Columns.{number_from}
 use Rattle.line.specs.Lines.{numbers_from}
+use Rattle.line.specs.Laws.Numbers.{at_numbers}
 use Rattle.sheet.specs.Steps.{AreLiterals}
 use Rattle.field.specs.declared.Number as made
 
@@ -55,7 +48,7 @@ module _ (ys : List made.Number) (l : AreLiterals (take most_literals (numbers_f
   y = get_or ys i (record { minus = false; size = 0 })
 
   field_is : at xs i ≡ number_from y
-  field_is = get_or-take most_literals (numbers_from ys) i (plus 0) h ∙ get_or-map number_from ys i (record { minus = false; size = 0 })
+  field_is = sym (at_numbers most_literals i ys h)
 
   pub code_fits : y.size ≤ 99
   code_fits = omega (arith, literals-small l.switches xs i l.right, l.few, ap (λ z. z.size) field_is)

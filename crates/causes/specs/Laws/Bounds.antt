@@ -1,9 +1,7 @@
 -- What the lines so far say is within the limits. Assumes nothing.
-use Prim.Native.Nat.{ℕ, zero, suc, ◌≤◌, ◌<◌}
-use native.Mathlib.Omega.{arith}
-use Rattle.std.specs.Prelude.{Bool, List, [], ◌∷◌, ◌++◌, length}
+use Rattle.std.specs.Prelude.{ℕ, zero, suc, ◌≤◌, ◌<◌, Bool, List, [], ◌∷◌, ◌++◌, length}
+use Rattle.std.proofs.Common.{arith, ltb-true}
 use Rattle.std.proofs.Math.Option.{Option, none, some}
-use Rattle.std.proofs.Common.{ltb-true}
 use Rattle.scope.specs.Sheet.{Number, Sheet, Letter, H, N, A, O, R, W, Z, Line, most_switches, most_faults, most_gates, most_rules, most_wishes}
 use Rattle.scope.specs.Causes.{up_to, at, tests, started, make, Met}
 use Rattle.scope.specs.Reading.{tests_of, add, line_at, tests_at}

@@ -14,8 +14,8 @@ returns-in_default c = stopped _ c.requires _ _ c.loop-i.invariant (omega arith)
 pub loop-i-preserved : goal.loop-i-preserved
 loop-i-preserved c = sym (sym c.after.ensures ∙ c.in-Some.is) ∙ next_state _ c.requires _ _ c.loop-i.invariant (omega arith) _ refl
 
-pub returns-in-Number : goal.returns-in-Number
-returns-in-Number c = is_number _ c.requires _ _ c.loop-i.invariant (omega arith) _ _ c.in-Number.is
+pub returns-in-Digits : goal.returns-in-Digits
+returns-in-Digits c = is_number _ c.requires _ _ c.loop-i.invariant (omega arith) _ c.in-Digits.is
 
 pub returns-in-Blank : goal.returns-in-Blank
 returns-in-Blank c = ends_bare _ c.requires _ _ c.loop-i.invariant (omega arith) c.in-Blank.is

@@ -4,9 +4,6 @@ use Rattle.std.proofs.lemmas.List.{length-replicate}
 use Rattle.line.proofs.Fields.{begun, field-taken, field-lost, line-fed, not-fed}
 use Rattle.line.proofs.read.fields_at.Goals as goal
 
-pub loop-i-init : goal.loop-i-init
-loop-i-init g c = begun _ _ _ (length-replicate _ _)
-
 pub loop-i-preserved : goal.loop-i-preserved
 loop-i-preserved g c = field-taken _ _ c.requires _ _ c.loop-i.invariant c.loop-i-test.true _ refl _ c.in-Ok.ensures
 

@@ -1,11 +1,9 @@
 -- Bytes put into a buffer: those before and after them stay. Assumes nothing.
-use Prim.Native.Nat.{ℕ, ◌+◌, ◌≤◌}
-use Rattle.std.proofs.Common.{add-zero, arith, ◌∙◌, take-append-drop, length-take-le, take_at, drop_at}
-use mathlib.Core.List.{List, [], ◌++◌, append_assoc, append-nil}
-use Rattle.std.specs.Prelude.{◌≡◌}
-use Rattle.std.proofs.Math.Path.{sym, ap, ap₂}
-use Rattle.std.proofs.Math.ListN.{length, take, drop, length-append}
-use Rattle.std.proofs.Math.Seq.{drop-drop}
+use Rattle.std.specs.Prelude.{ℕ, ◌+◌, ◌≤◌, ◌<◌, List, [], ◌∷◌, ◌++◌, ◌≡◌, refl, length, take, drop, set}
+use Rattle.std.proofs.Common.{add-zero, zero-add, add-one, arith, append_assoc, append-nil, sym, ap, ap₂, ◌∙◌, length-append, length-drop, length-take-le, take-append-drop, take_at, drop_at, drop-drop, drop_of_length-le}
+use Rattle.std.proofs.Math.Seq.{take-length, paste}
+use Rattle.std.proofs.lemmas.List.{set_split}
+use Rattle.std.proofs.lemmas.Slice.{put_mid-paste}
 use borrow.Rule.Slice.PartMut.{put_mid}
 
 unfoldable pub put : List ℕ → ℕ → List ℕ → List ℕ
@@ -15,14 +13,31 @@ pub put_nothing : (out : List ℕ) (at : ℕ) → put out at [] ≡ out
 unfolding put
 put_nothing out at = ap (λ m. take at out ++ [] ++ drop m out) (add-zero at) ∙ ap (λ s. s ++ drop at out) (append-nil (take at out)) ∙ take-append-drop at out
 
+pub put_byte : (out : List ℕ) (at b : ℕ) → at < length out → set out at b ≡ put out at (b ∷ [])
+unfolding put
+put_byte out at b h = set_split out at b h ∙ ap (λ m. take at out ++ b ∷ drop m out) (sym (add-one at)) ∙ sym (append_assoc (take at out) (b ∷ []) (drop (at + 1) out))
+
+-- bytes put there one by one
+pub all_put : (out : List ℕ) (at : ℕ) (s : List ℕ) (n : ℕ) → length s ≡ n → paste out at s n ≡ put out at s
+unfolding put
+all_put out at s n e = rw (← e) (ap (λ r. take at out ++ r ++ drop (at + length s) out) (take-length s))
+
 -- what a part of the buffer that held k bytes from `at` on leaves, when it holds as many others
 pub put_part : (out s : List ℕ) (at k : ℕ) → k ≡ length s → put_mid at k out s ≡ put out at s
+put_part out s at k e = put_mid-paste at k out s s k refl refl e ∙ all_put out at s k (sym e)
+
+-- as many as the buffer holds
+pub put_whole : (out s : List ℕ) → length s ≡ length out → put out 0 s ≡ s
 unfolding put
-put_part out s at k e = rw (e, drop-drop (length s) at out) (sym (append_assoc (take at out) s (drop (at + length s) out)))
+put_whole out s e = rw zero-add (ap (λ r. s ++ r) (drop_of_length-le out {i = length s} (omega (arith, e))) ∙ append-nil s)
 
 module _ (out : List ℕ) (at : ℕ) (s : List ℕ) (room : at + length s ≤ length out) where
   head_length : length (take at out ++ s) ≡ at + length s
   head_length = omega (arith, length-append (take at out) s, length-take-le at out (omega arith))
+
+  pub length_put : length (put out at s) ≡ length out
+  unfolding put
+  length_put = length-append (take at out ++ s) (drop (at + length s) out) ∙ omega (arith, head_length, length-drop (at + length s) out)
 
   -- more of them after those that are there
   put_more : (r : List ℕ) → put (put out at s) (at + length s) r ≡ put out at (s ++ r)
