@@ -18,7 +18,7 @@ const END: u8 = b'Z';
 pub const ROOM: usize = 4096;
 
 // The bytes of the longest listing: a row each for A, the switches, the wishes, the patterns and Z.
-pub const MOST_BYTES: usize = (MOST_SWITCHES as usize + MOST_WISHES as usize + ROOM + 2) * ROW_SIZE;
+pub const MOST_LISTING: usize = (MOST_SWITCHES as usize + MOST_WISHES as usize + ROOM + 2) * ROW_SIZE;
 
 // A row for each switch and each wish, if a plan was found.
 fn put_plan(out: &mut [u8], found: Option<Found>) -> usize

@@ -88,7 +88,7 @@ module _ (r : Read) (h : Source r) (o : Outcome) (l : List ℕ) (g : answer_from
 
 -- ---- the plan's rows are shown exactly if a plan was found
 
-refused_number : (c : Refusal) → number_of c ≢ 0
+pub refused_number : (c : Refusal) → number_of c ≢ 0
 refused_number Length e = absurd (omega arith)
 refused_number Malformed e = absurd (omega arith)
 refused_number Order e = absurd (omega arith)
