@@ -1,5 +1,5 @@
 -- Rows put into a buffer, one after another. Assumes nothing.
-use Rattle.std.specs.Prelude.{ℕ, ◌*◌, ◌<◌, List, [], ◌∷◌, ◌≡◌, length, get_or, map}
+use Rattle.std.specs.Prelude.{ℕ, ◌*◌, ◌<◌, List, [], ◌∷◌, ◌≡◌, length, get_or, take, map}
 use Rattle.scope.specs.Sheet.{plus, fields_bytes}
 use Rattle.scope.specs.Causes.{line_size}
 use Rattle.scope.specs.Jobs.{over}
@@ -23,6 +23,10 @@ pub record Wrote (out : List ℕ) (rs : List Row) (now : List ℕ) (end : ℕ) :
   pub bytes : now ≡ over (rows_bytes rs) out
   pub size : length (rows_bytes rs) ≡ row_size * length rs
   pub end_is : end ≡ row_size * length rs
+
+-- a row for each of the first k elements of a list, numbered from 1
+abbrev pub Put : {A : Type 0} → (ℕ → A → Row) → (out : List ℕ) (l : List A) (k : ℕ) (now : List ℕ) → Type 0
+Put f out l k now = Wrote out (each f 1 (take k l)) now (row_size * k)
 
 -- ---- rows of a kind
 
