@@ -1,7 +1,7 @@
 -- Rows put into a buffer, one after another. Assumes nothing.
 use Prim.Native.Char.{Char}
 use Rattle.std.specs.Prelude.{ℕ, zero, suc, ◌+◌, ◌-◌, ◌*◌, ◌≤◌, ◌<◌, ◌≡◌, refl, List, [], ◌∷◌, ◌++◌, map, length, get_or, take, drop}
-use Rattle.std.proofs.Common.{add-zero, add-one, suc-add, add-suc, arith, sym, ap, ap₂, ◌∙◌, append_assoc, append-nil, length-append, length-drop, drop_at, take_at, take_all, take-suc, length-take-le, drop-drop, ext_get_or}
+use Rattle.std.proofs.Common.{add-zero, add-one, suc-add, add-suc, arith, sym, ap, ap₂, subst, ◌∙◌, append_assoc, append-nil, length-append, length-drop, drop_at, take_at, take_all, take-suc, length-take-le, drop-drop, ext_get_or}
 use Rattle.std.proofs.Math.Decide.{dec_lt}
 use Rattle.std.proofs.Math.ListN.{get_or-append, get_or-map}
 use Rattle.std.proofs.Math.Seq.{get_or-append-add, take-length}
@@ -148,6 +148,11 @@ module _ (R : ℕ → ℕ → Type 0) where
   rows_given letter g l d n xs e given h =
       let same : xs ≡ map g l = ext_get_or (g d) xs (map g l) (omega (arith, given.count, length-map l g)) (λ i b. let k : i < n = omega (arith, given.count) in get_or_default_zero xs i (g d) b ∙ h i (get_or xs i 0) k (given.each_one i k) ∙ sym (get_or-map g l i d)) in
       ap (figure_rows letter) same ∙ each_map (figure_row letter) g 1 l
+
+  -- so these are put where its figures are
+  pub given_wrote : {A : Type 0} (letter : ℕ) (g : A → ℕ) (l : List A) (d : A) {n : ℕ} {out new : List ℕ} {end : ℕ} → length l ≡ n → ((i x : ℕ) → i < n → R i x → x ≡ g (get_or l i d))
+      → (xs : List ℕ) × Given R n xs × Wrote out (figure_rows letter xs) new end → Wrote out (each (λ i a. figure_row letter i (g a)) 1 l) new end
+  given_wrote letter g l d {n} {out} {new} {end} e h (xs, given, wrote) = subst (λ rs. Wrote out rs new end) (rows_given letter g l d n xs e given h) wrote
 
 -- the row of a number and zeros
 pub number_small : (n : ℕ) → n < field_end → Small (n ∷ 0 ∷ 0 ∷ [])

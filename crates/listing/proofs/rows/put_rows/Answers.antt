@@ -1,5 +1,5 @@
 -- Each turn puts the next row behind those that are there, with the figure that is given for it.
-use Rattle.std.proofs.Common.{◌++◌, [], ◌∷◌, arith}
+use Rattle.std.proofs.Common.{◌++◌, ◌+◌, [], ◌∷◌, arith}
 use Rattle.listing.specs.Rows.{figure_row}
 use Rattle.listing.specs.Laws.Rows.{part_left, wrote_none, wrote_more, figures_snoc, given_none, given_more, length_each}
 use Rattle.scope.specs.Program.{each}
@@ -21,5 +21,5 @@ loop-i-preserved g c =
     let n = length_each (figure_row c.args.letter) 1 xs in
     let x = c.figure.result in
     let rows = figures_snoc c.args.letter xs x c.loop-i.i given.count in
-    let put = wrote_more wrote (omega (arith, n, given.count, wrote.end_is)) c.put_row-end.ensures in
+    let put = wrote_more {qs = figure_row c.args.letter (c.loop-i.i + 1) x ∷ []} wrote (omega (arith, n, given.count, wrote.end_is)) c.put_row-end.ensures in
     (xs ++ x ∷ [], given_more _ c.loop-i.i xs x given c.figure.ensures, rw rows put)
