@@ -1,16 +1,12 @@
 // The rows of the listing that come in numbers: switches, wishes, patterns.
-ghost use Rattle.std.specs.Prelude.{[], List, ℕ, false, ◌≡◌, ◌*◌, ◌≤◌, ◌<◌, length, get_or};
+ghost use Rattle.std.specs.Prelude.{List, ℕ, ◌*◌, ◌≤◌, ◌<◌, length};
 ghost use Rattle.scope.specs.Sheet.{Valid};
 ghost use Rattle.scope.specs.Meaning.{bits};
-ghost use Rattle.scope.specs.Meaning as meaning;
 ghost use Rattle.scope.specs.Program.{each, switch_row, wish_row, pattern_row, room};
 ghost use Rattle.listing.specs.Rows.{row_size, field_end, figure_rows, Small, Given, Wrote};
 
 use crate::row::put_row;
-use circuit::point::switch_on;
-use circuit::wish::kept;
-use words::Plan;
-use words::sheet::Sheet;
+use crate::shown::Found;
 
 const SWITCH: u8 = b'S';
 
@@ -34,40 +30,23 @@ fn put_rows<F: Fn(usize) -> u32>(out: &mut [u8], letter: u8, n: usize, figure: F
     end
 }
 
-// Whether switch i is on, counted from 0.
-fn is_on(sheet: &Sheet, plan: Plan, i: usize) -> bool
-    requires { i < sheet.now.switches }
-    ensures { result ≡ get_or (bits sheet.now.switches plan.0) i false }
-{
-    switch_on(plan, sheet.counts().switches, i as u32 + 1)
-}
-
-// Whether wish i is kept, counted from 0.
-#[tactic(auto, unfolding(scope::specs::Meaning::kept, scope::specs::Meaning::switch_on))]
-fn is_kept(sheet: &Sheet, plan: Plan, i: usize) -> bool
-    requires { i < length sheet.now.wishes }
-    ensures { result ≡ meaning.kept sheet.now plan.0 (get_or sheet.now.wishes i []) }
-{
-    kept(sheet.wish(i), sheet.counts().switches, plan)
-}
-
 // A row for each switch, on or off.
-pub fn put_switches(out: &mut [u8], sheet: &Sheet, plan: Plan) -> usize
-    requires { row_size * sheet.now.switches ≤ length out.old }
-    ensures valid { Valid sheet.now }
-    ensures rows { Wrote out.old (each switch_row 1 (bits sheet.now.switches plan.0)) out.new result }
+pub fn put_switches(out: &mut [u8], found: Found) -> usize
+    requires { row_size * found.sheet.now.switches ≤ length out.old }
+    ensures valid { Valid found.entry.sheet.now }
+    ensures rows { Wrote out.old (each switch_row 1 (bits found.entry.sheet.now.switches found.entry.plan.0)) out.new result }
 {
-    let n = sheet.counts().switches as usize;
-    put_rows(out, SWITCH, n, |i| u32::from(is_on(sheet, plan, i)))
+    let n = found.sheet.counts().switches as usize;
+    put_rows(out, SWITCH, n, |i| u32::from(found.is_on(i)))
 }
 
 // A row for each wish, kept or broken.
-pub fn put_wishes(out: &mut [u8], sheet: &Sheet, plan: Plan) -> usize
-    requires { row_size * length sheet.now.wishes ≤ length out.old }
-    ensures { Wrote out.old (each (wish_row sheet.now plan.0) 1 sheet.now.wishes) out.new result }
+pub fn put_wishes(out: &mut [u8], found: Found) -> usize
+    requires { row_size * length found.sheet.now.wishes ≤ length out.old }
+    ensures { Wrote out.old (each (wish_row found.entry.sheet.now found.entry.plan.0) 1 found.entry.sheet.now.wishes) out.new result }
 {
-    let n = sheet.counts().wishes as usize;
-    put_rows(out, WISH, n, |i| u32::from(is_kept(sheet, plan, i)))
+    let n = found.sheet.counts().wishes as usize;
+    put_rows(out, WISH, n, |i| u32::from(found.is_kept(i)))
 }
 
 // A row for each listed pattern.

@@ -1,6 +1,10 @@
 // What a listing shows beside the list.
-ghost use Rattle.std.specs.Prelude.{◌<◌};
+ghost use Rattle.std.specs.Prelude.{[], ◌≡◌, ◌<◌, false, length, get_or};
+ghost use Rattle.scope.specs.Meaning.{bits};
+ghost use Rattle.scope.specs.Meaning as meaning;
 
+use circuit::point::switch_on;
+use circuit::wish::kept;
 use words::Plan;
 use words::sheet::Sheet;
 
@@ -20,4 +24,23 @@ pub struct Head {
 pub struct Found<'a> {
     pub sheet: &'a Sheet,
     pub plan: Plan,
+}
+
+impl Found<'_> {
+    // Whether switch i is on, counted from 0.
+    pub fn is_on(self, i: usize) -> bool
+        requires { i < self.sheet.now.switches }
+        ensures { result ≡ get_or (bits self.entry.sheet.now.switches self.entry.plan.0) i false }
+    {
+        switch_on(self.plan, self.sheet.counts().switches, i as u32 + 1)
+    }
+
+    // Whether wish i is kept, counted from 0.
+    #[tactic(auto, unfolding(scope::specs::Meaning::kept, scope::specs::Meaning::switch_on))]
+    pub fn is_kept(self, i: usize) -> bool
+        requires { i < length self.sheet.now.wishes }
+        ensures { result ≡ meaning.kept self.entry.sheet.now self.entry.plan.0 (get_or self.entry.sheet.now.wishes i []) }
+    {
+        kept(self.sheet.wish(i), self.sheet.counts().switches, self.plan)
+    }
 }

@@ -29,8 +29,8 @@ fn put_plan(out: &mut [u8], found: Option<Found>) -> usize
     let Some(found) = found else {
         return 0;
     };
-    let middle = put_switches(out, found.sheet, found.plan);
-    middle + put_wishes(&mut out[middle..], found.sheet, found.plan)
+    let middle = put_switches(out, found);
+    middle + put_wishes(&mut out[middle..], found)
 }
 
 // The listing, at the beginning of `out`. Returns its length.

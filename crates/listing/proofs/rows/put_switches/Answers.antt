@@ -8,6 +8,6 @@ use Rattle.listing.proofs.rows.put_switches.Goals as goal
 
 pub returns-clause-rows : goal.returns-clause-rows
 returns-clause-rows c =
-    let t = c.args.sheet.now in
-    let plan = c.args.plan.0 in
+    let t = c.args.found.sheet.now in
+    let plan = c.args.found.plan.0 in
     given_wrote _ _ one (bits t.switches plan) false (length_bits t.switches plan ∙ ap (λ k. k.switches) (sym c.counts-n.ensures.counts)) (λ i x h r. search rules) c.put_rows.ensures

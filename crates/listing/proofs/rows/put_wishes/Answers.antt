@@ -7,5 +7,5 @@ use Rattle.listing.proofs.rows.put_wishes.Goals as goal
 
 pub returns : goal.returns
 returns c =
-    let t = c.args.sheet.now in
-    given_wrote _ _ (λ w. one (kept t c.args.plan.0 w)) t.wishes [] (ap (λ k. k.wishes) (sym c.counts-n.ensures.counts)) (λ i x h r. search rules) c.put_rows.ensures
+    let t = c.args.found.sheet.now in
+    given_wrote _ _ (λ w. one (kept t c.args.found.plan.0 w)) t.wishes [] (ap (λ k. k.wishes) (sym c.counts-n.ensures.counts)) (λ i x h r. search rules) c.put_rows.ensures
