@@ -3,24 +3,18 @@ ghost use Rattle.std.specs.Prelude.{List, ℕ, ◌*◌, ◌≤◌, ◌<◌, leng
 ghost use Rattle.scope.specs.Sheet.{Valid};
 ghost use Rattle.scope.specs.Meaning.{bits};
 ghost use Rattle.scope.specs.Program.{each, switch_row, wish_row, pattern_row, room};
-ghost use Rattle.listing.specs.Rows.{row_size, field_end, figure_rows, Small, Given, Wrote};
+ghost use Rattle.listing.specs.Rows.{row_size, byte_of, field_end, figure_rows, Small, Given, Wrote};
 
-use crate::row::put_row;
+use crate::row::{Letter, put_row};
 use crate::shown::Found;
 
-const SWITCH: u8 = b'S';
-
-const WISH: u8 = b'W';
-
-const PATTERN: u8 = b'F';
-
 // A row for each of n figures: its number, counted from 1, and what is given for its place, counted from 0.
-fn put_rows<F: Fn(usize) -> u32>(out: &mut [u8], letter: u8, n: usize, figure: F) -> usize
+fn put_rows<F: Fn(usize) -> u32>(out: &mut [u8], letter: Letter, n: usize, figure: F) -> usize
     requires few { n < field_end }
     requires room { row_size * n ≤ length out.old }
     requires given { (i : ℕ) → i < n → F.pre figure i }
     requires small { (i x : ℕ) → i < n → F.post figure i x → x < field_end }
-    ensures { (xs : List ℕ) × Given (F.post figure) n xs × Wrote out.old (figure_rows letter xs) out.new result }
+    ensures { (xs : List ℕ) × Given (F.post figure) n xs × Wrote out.old (figure_rows (byte_of letter) xs) out.new result }
 {
     let mut end = 0;
     for i in 0..n {
@@ -37,7 +31,7 @@ pub fn put_switches(out: &mut [u8], found: Found) -> usize
     ensures rows { Wrote out.old (each switch_row 1 (bits found.entry.sheet.now.switches found.entry.plan.0)) out.new result }
 {
     let n = found.sheet.counts().switches as usize;
-    put_rows(out, SWITCH, n, |i| u32::from(found.is_on(i)))
+    put_rows(out, Letter::Switch, n, |i| u32::from(found.is_on(i)))
 }
 
 // A row for each wish, kept or broken.
@@ -46,7 +40,7 @@ pub fn put_wishes(out: &mut [u8], found: Found) -> usize
     ensures { Wrote out.old (each (wish_row found.entry.sheet.now found.entry.plan.0) 1 found.entry.sheet.now.wishes) out.new result }
 {
     let n = found.sheet.counts().wishes as usize;
-    put_rows(out, WISH, n, |i| u32::from(found.is_kept(i)))
+    put_rows(out, Letter::Wish, n, |i| u32::from(found.is_kept(i)))
 }
 
 // A row for each listed pattern.
@@ -56,5 +50,5 @@ pub fn put_patterns(out: &mut [u8], list: &[u32]) -> usize
     requires room { row_size * length list.now ≤ length out.old }
     ensures { Wrote out.old (each pattern_row 1 list.now) out.new result }
 {
-    put_rows(out, PATTERN, list.len(), |i| list[i])
+    put_rows(out, Letter::Pattern, list.len(), |i| list[i])
 }
