@@ -11,7 +11,8 @@
 # - A promise that is exported names modules to believe alone. What is exported has no `requires`, and none of its
 #   parameters is of a type that asks for a fact (a ghost fact, or impl Model). Exported is what can be reached from
 #   outside: what planner's lib.rt hands on by `pub use` or has as `pub mod`, and the calls for C of planner_c.
-#   What a contract sees of a type that stands there (`view`, `Value`) is exported with it.
+#   What a contract sees of a type that stands there (`view`, `Value`) is exported with it. A constant promises
+#   nothing, so that planner's may come from any crate.
 # - A module to believe imports modules to believe alone: none that only computes, none under Laws/ or of proofs/.
 cd "$(dirname "$0")/../.." && . tests/lib.sh || exit 1
 
@@ -41,7 +42,7 @@ root=crates/planner/src
             if (path !~ /^[a-z_]+::/ || list ~ /:|\{.*\{| as /) { print "odd " $0; next }
             gsub(/[{},]/, " ", list)
             n = split(list, name)
-            for (i = 1; i <= n; i++) print root "/" module ".rt " name[i]
+            for (i = 1; i <= n; i++) if (name[i] !~ /^[A-Z][A-Z_]*$/) print root "/" module ".rt " name[i]
         }'
 } >"$work/exported"
 

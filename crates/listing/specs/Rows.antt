@@ -1,9 +1,12 @@
 -- Rows put into a buffer, one after another. Assumes nothing.
-use Rattle.std.specs.Prelude.{ℕ, ◌*◌, ◌<◌, List, [], ◌∷◌, ◌≡◌, length, get_or, map}
+use Prim.Native.Char.{code}
+use Rattle.std.specs.Prelude.{ℕ, ◌*◌, ◌<◌, List, [], ◌∷◌, ◌≡◌, length, get_or, take, map}
 use Rattle.scope.specs.Sheet.{plus, fields_bytes}
 use Rattle.scope.specs.Causes.{line_size}
 use Rattle.scope.specs.Jobs.{over}
 use Rattle.scope.specs.Program.{output_fields, Row, rows_bytes, each}
+use Rattle.listing.specs.declared.row.Letter.{Letter}
+use Rattle.listing.specs.declared.row.Letter.TheVariants.{Answer, Switch, Wish, Pattern, End}
 
 abbrev pub row_size : ℕ
 row_size = line_size output_fields
@@ -24,7 +27,18 @@ pub record Wrote (out : List ℕ) (rs : List Row) (now : List ℕ) (end : ℕ) :
   pub size : length (rows_bytes rs) ≡ row_size * length rs
   pub end_is : end ≡ row_size * length rs
 
+-- a row for each of the first k elements of a list, numbered from 1
+abbrev pub Put : {A : Type 0} → (ℕ → A → Row) → (out : List ℕ) (l : List A) (k : ℕ) (now : List ℕ) → Type 0
+Put f out l k now = Wrote out (each f 1 (take k l)) now (row_size * k)
+
 -- ---- rows of a kind
+
+abbrev pub byte_of : Letter → ℕ
+byte_of Answer = code "A"
+byte_of Switch = code "S"
+byte_of Wish = code "W"
+byte_of Pattern = code "F"
+byte_of End = code "Z"
 
 -- a row of numbers that are not below 0
 abbrev pub row_of : (letter : ℕ) → List ℕ → Row

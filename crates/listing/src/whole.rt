@@ -5,20 +5,17 @@ ghost use Rattle.scope.specs.Program.{room};
 ghost use Rattle.listing.specs.Rows.{row_size, Wrote, Small};
 ghost use Rattle.listing.specs.Listing.{plan_rows_of, plan_count, listing_rows, row_count};
 
-use crate::row::{ROW_SIZE, put_row};
+use crate::row::{Letter, ROW_SIZE, put_row};
 use crate::rows::{put_patterns, put_switches, put_wishes};
 use crate::shown::{Found, Head};
 use words::limit::{MOST_SWITCHES, MOST_WISHES};
-
-const ANSWER: u8 = b'A';
-
-const END: u8 = b'Z';
 
 // The longest list that is printed.
 pub const ROOM: usize = 4096;
 
 // The bytes of the longest listing: a row each for A, the switches, the wishes, the patterns and Z.
-pub const MOST_BYTES: usize = (MOST_SWITCHES as usize + MOST_WISHES as usize + ROOM + 2) * ROW_SIZE;
+pub const MOST_LISTING: usize = (MOST_SWITCHES as usize + MOST_WISHES as usize + ROOM + 2)
+    * ROW_SIZE;
 
 // A row for each switch and each wish, if a plan was found.
 fn put_plan(out: &mut [u8], found: Option<Found>) -> usize
@@ -29,8 +26,8 @@ fn put_plan(out: &mut [u8], found: Option<Found>) -> usize
     let Some(found) = found else {
         return 0;
     };
-    let middle = put_switches(out, found.sheet, found.plan);
-    middle + put_wishes(&mut out[middle..], found.sheet, found.plan)
+    let middle = put_switches(out, found);
+    middle + put_wishes(&mut out[middle..], found)
 }
 
 // The listing, at the beginning of `out`. Returns its length.
@@ -40,9 +37,9 @@ pub fn put_listing(out: &mut [u8], head: Head, found: Option<Found>, list: &[u32
     requires room { row_size * row_count found list.now ≤ length out.old }
     ensures { Wrote out.old (listing_rows head found.entry list.now) out.new result }
 {
-    let first = put_row(out, ANSWER, [head.number, head.place, head.figure]);
+    let first = put_row(out, Letter::Answer, [head.number, head.place, head.figure]);
     let middle = first + put_plan(&mut out[first..], found);
     let end = middle + put_patterns(&mut out[middle..], list);
     let lines = (end / ROW_SIZE) as u32;
-    end + put_row(&mut out[end..], END, [lines, 0, 0])
+    end + put_row(&mut out[end..], Letter::End, [lines, 0, 0])
 }

@@ -2,8 +2,9 @@
 // `jobs` for the outcome, and on `listing` and `writer` for its bytes.
 #![tactic(auto)]
 
-ghost use Rattle.std.specs.Prelude.{◌≡◌, ◌*◌, ◌≤◌, length, Err};
-ghost use Rattle.scope.specs.Causes.{accepted};
+ghost use Rattle.std.specs.Prelude.{◌≡◌, ◌*◌, ◌≤◌, length, ltb, Err, is_none, unwrap_or};
+ghost use Rattle.scope.specs.Sheet.{field_count};
+ghost use Rattle.scope.specs.Causes.{accepted, most_bytes};
 ghost use Rattle.scope.specs.Source.{Source};
 ghost use Rattle.scope.specs.Program.{output_rows, most_output, listing_result, listing_of, converted_of};
 ghost use Rattle.words.specs.Told.{told};
@@ -14,13 +15,14 @@ ghost use Rattle.output.specs.Steps.{Printable, Heads};
 use jobs::answer::answer;
 use jobs::outcome::Outcome;
 use listing::shown::{Found, Head};
-use listing::whole::{MOST_BYTES, ROOM, put_listing};
+use listing::whole::{ROOM, put_listing};
 use words::refusal::{Cause, Refusal};
 use words::sheet::Sheet;
 use writer::write::write;
 
-// The bytes of the longest sheet.
-const MOST_SHEET: usize = 9010;
+// The bytes of the longest output: of a listing, and of a sheet.
+pub use listing::whole::MOST_LISTING;
+pub use writer::write::MOST_SHEET;
 
 // The A line of an outcome: its number, its place, and the column of a malformed line or else the cost.
 fn head(outcome: Outcome) -> Head
@@ -75,31 +77,34 @@ fn put_refusal(cause: Cause, out: &mut [u8]) -> usize
 }
 
 // Puts what the program prints at the beginning of `out`, and returns its length. A buffer that is shorter than the longest
-// listing is left as it was, and the length is 0.
-pub fn put_output(read: &Result<Sheet, Cause>, out: &mut [u8]) -> usize
+// listing is left as it was, and there is none.
+pub fn put_output(read: &Result<Sheet, Cause>, out: &mut [u8]) -> Option<usize>
     requires { Source (told read.now) }
-    ensures { listing_result result out.new ≡ listing_of (told read.now) out.old }
+    ensures listing { listing_result (unwrap_or result 0) out.new ≡ listing_of (told read.now) out.old }
+    ensures short { is_none result ≡ ltb (length out.old) most_output }
 {
-    if out.len() < MOST_BYTES {
-        return 0;
+    if out.len() < MOST_LISTING {
+        return None;
     }
-    match read {
+    let end = match read {
         Ok(sheet) => put_answer(sheet, out),
         Err(cause) => put_refusal(*cause, out),
-    }
+    };
+    Some(end)
 }
 
 // Puts the sheet, or the listing of a refusal, at the beginning of `out`, and returns its length. A buffer that is shorter than the
-// longest sheet is left as it was, and the length is 0.
-pub fn put_sheet(read: &Result<Sheet, Cause>, out: &mut [u8]) -> usize
+// longest sheet is left as it was, and there is none.
+pub fn put_sheet(read: &Result<Sheet, Cause>, out: &mut [u8]) -> Option<usize>
     requires { Source (told read.now) }
-    ensures { listing_result result out.new ≡ converted_of (told read.now) out.old }
+    ensures sheet { listing_result (unwrap_or result 0) out.new ≡ converted_of (told read.now) out.old }
+    ensures short { is_none result ≡ ltb (length out.old) (most_bytes field_count) }
 {
     if out.len() < MOST_SHEET {
-        return 0;
+        return None;
     }
     match read {
-        Ok(sheet) => write(sheet.words(), out).unwrap_or(0),
-        Err(refused) => put_refusal(*refused, out),
+        Ok(sheet) => write(sheet.words(), out).ok(),
+        Err(cause) => Some(put_refusal(*cause, out)),
     }
 }

@@ -7,19 +7,17 @@ ghost use Rattle.scope.specs.Sheet.{field_count};
 ghost use Rattle.scope.specs.Sheets.{SheetRead};
 ghost use Rattle.scope.specs.Program.{listing_result, IsListing};
 
-use planner::{Fixed, print_listing};
+use planner::{Fixed, MOST_LISTING, MOST_SHEET, print_listing};
 
 // One byte more than a sheet may have, so that a longer one is told.
-const INPUT: usize = 9011;
-// The longest listing.
-const OUTPUT: usize = 71_094;
+const INPUT: usize = MOST_SHEET + 1;
 
 fn print(sheet: &[u8], out: &mut [u8]) -> usize
     ensures { IsListing (SheetRead field_count sheet.now) out.old (listing_result result out.new) }
 {
-    print_listing::<Fixed>(sheet, out)
+    print_listing::<Fixed>(sheet, out).unwrap_or(0)
 }
 
 fn main(rt: HostRuntime) {
-    stream::run(&rt, &mut [0; INPUT], &mut [0; OUTPUT], print);
+    stream::run(&rt, &mut [0; INPUT], &mut [0; MOST_LISTING], print);
 }

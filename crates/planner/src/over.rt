@@ -1,7 +1,10 @@
 // The jobs, over bytes of any form: each reads them, and hands on the sheet or the cause to turn it down.
+ghost use Rattle.std.specs.Prelude.{◌≡◌, length, ltb, is_none, unwrap_or};
+ghost use Rattle.scope.specs.Sheet.{field_count};
+ghost use Rattle.scope.specs.Causes.{most_bytes};
 ghost use Rattle.scope.specs.Jobs.{IsAnswer, IsShortRun, IsRating};
 ghost use Rattle.scope.specs.Demands.{IsPair};
-ghost use Rattle.scope.specs.Program.{listing_result, IsListing, IsConverted};
+ghost use Rattle.scope.specs.Program.{listing_result, most_output, IsListing, IsConverted};
 ghost use Rattle.scope.specs.Filling.{IsRead};
 ghost use Rattle.jobs.specs.Figures.{result_of, rating_of, answer_from};
 ghost use Rattle.words.specs.Told.{told};
@@ -60,16 +63,20 @@ pub fn run_pair<F: Form>(s: &[u8], list: &mut [u32], j: usize) -> PairRuns
     }
 }
 
-// What the program prints, put at the beginning of `out`; its length is returned.
-pub fn print_listing<F: Form>(s: &[u8], out: &mut [u8]) -> usize
-    ensures { IsListing (F.Reading s.now) out.old (listing_result result out.new) }
+// What the program prints, put at the beginning of `out`; its length is returned. A buffer that is shorter than the longest
+// listing is left as it was, and there is none.
+pub fn print_listing<F: Form>(s: &[u8], out: &mut [u8]) -> Option<usize>
+    ensures listing { IsListing (F.Reading s.now) out.old (listing_result (unwrap_or result 0) out.new) }
+    ensures short { is_none result ≡ ltb (length out.old) most_output }
 {
     put_output(&sheet_of::<F>(s), out)
 }
 
-// The sheet put at the beginning of `out`, or the lines that tell its refusal; the length is returned.
-pub fn print_sheet<F: Form>(s: &[u8], out: &mut [u8]) -> usize
-    ensures { IsConverted (F.Reading s.now) out.old (listing_result result out.new) }
+// The sheet put at the beginning of `out`, or the lines that tell its refusal; the length is returned. A buffer that is shorter
+// than the longest sheet is left as it was, and there is none.
+pub fn print_sheet<F: Form>(s: &[u8], out: &mut [u8]) -> Option<usize>
+    ensures sheet { IsConverted (F.Reading s.now) out.old (listing_result (unwrap_or result 0) out.new) }
+    ensures short { is_none result ≡ ltb (length out.old) (most_bytes field_count) }
 {
     put_sheet(&sheet_of::<F>(s), out)
 }

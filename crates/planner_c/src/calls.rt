@@ -166,7 +166,7 @@ pub extern "C" fn comzsered_rating(
 pub extern "C" fn comzsered_listing(sheet: &[u8], out: &mut [u8]) -> usize
     ensures { IsListing (SheetRead field_count sheet.now) out.old (listing_result result out.new) }
 {
-    planner::print_listing::<Fixed>(sheet, out)
+    planner::print_listing::<Fixed>(sheet, out).unwrap_or(0)
 }
 
 // The same for a typed text.
@@ -243,7 +243,7 @@ pub extern "C" fn comzsered_text_rating(
 pub extern "C" fn comzsered_text_listing(text: &[u8], out: &mut [u8]) -> usize
     ensures { IsListing (TextRead text.now) out.old (listing_result result out.new) }
 {
-    planner::print_listing::<Typed>(text, out)
+    planner::print_listing::<Typed>(text, out).unwrap_or(0)
 }
 
 // Tables from a sheet and from a typed text, and a sheet from its tables.

@@ -9,4 +9,4 @@ mod rule;
 mod whole;
 mod wish;
 
-pub use whole::read;
+pub use whole::{MOST_TEXT, read};

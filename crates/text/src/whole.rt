@@ -16,7 +16,8 @@ use words::counts::put_head;
 use words::refusal::{Cause, Refusal};
 use words::{WORDS, Words};
 
-const MOST_TEXT: usize = 16384;
+// The bytes of the longest text.
+pub const MOST_TEXT: usize = 16384;
 
 // All lines of a text that is not too long.
 fn lines_of(s: &[u8], words: &mut Words) -> Result<Lines, Stuck>

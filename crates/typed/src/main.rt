@@ -6,19 +6,17 @@
 ghost use Rattle.scope.specs.Texts.{TextRead};
 ghost use Rattle.scope.specs.Program.{listing_result, IsListing};
 
-use planner::{Typed, print_listing};
+use planner::{Typed, MOST_LISTING, MOST_TEXT, print_listing};
 
 // One byte more than a text may have, so that a longer one is told.
-const INPUT: usize = 16_385;
-// The longest listing.
-const OUTPUT: usize = 71_094;
+const INPUT: usize = MOST_TEXT + 1;
 
 fn print(text: &[u8], out: &mut [u8]) -> usize
     ensures { IsListing (TextRead text.now) out.old (listing_result result out.new) }
 {
-    print_listing::<Typed>(text, out)
+    print_listing::<Typed>(text, out).unwrap_or(0)
 }
 
 fn main(rt: HostRuntime) {
-    stream::run(&rt, &mut [0; INPUT], &mut [0; OUTPUT], print);
+    stream::run(&rt, &mut [0; INPUT], &mut [0; MOST_LISTING], print);
 }

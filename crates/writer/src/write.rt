@@ -10,9 +10,17 @@ ghost use Rattle.writer.specs.Returned.{written_from};
 use crate::entries::line_count;
 use crate::faults::fault_at;
 use crate::lines::line_at;
+use field::FIELD_SIZE;
 use line::{FIELD_COUNT, line_size, put_line};
 use words::Words;
+use words::limit::{MOST_GATES, MOST_RULES, MOST_WISHES};
 use words::refusal::{Cause, Refusal};
+
+// The lines of the longest sheet: its head, its entries and its end.
+const MOST_LINES: usize = (MOST_GATES + MOST_RULES + MOST_WISHES) as usize + 2;
+
+// The bytes of the longest sheet. A constant's value calls no function, so that the size of a line is written out.
+pub const MOST_SHEET: usize = MOST_LINES * (1 + FIELD_COUNT * FIELD_SIZE + 1);
 
 // The first cause to turn the held sheet down: its lines are tested from the first.
 fn first_cause(words: &Words) -> Result<(), Cause>

@@ -1,5 +1,5 @@
 -- The listing of what Answer returned is the program's output. Assumes nothing.
-use Rattle.std.specs.Prelude.{ℕ, ◌+◌, ◌≤◌, ◌<◌, Bool, true, false, cond, List, [], ◌∷◌, ◌++◌, ◌≢◌, ◌≡◌, refl, ltb, length, get_or, take, drop, replicate, Option, Some, None, Result, Ok, Err}
+use Rattle.std.specs.Prelude.{ℕ, ◌+◌, ◌≤◌, ◌<◌, Bool, true, false, cond, List, [], ◌∷◌, ◌++◌, ◌≢◌, ◌≡◌, refl, ltb, length, get_or, take, drop, replicate, Option, Some, None, IfSome, Result, Ok, Err}
 use Rattle.std.proofs.Common.{arith, sym, ap₂, subst, ◌∙◌, length-append, length-drop, leb-true, lt-ltb, le-ltb, ne_eqb}
 use Rattle.std.proofs.Math.Path.{ap}
 use Rattle.std.proofs.lemmas.List.{length-replicate}
@@ -19,7 +19,8 @@ use Rattle.words.specs.Told.{told}
 use Rattle.listing.specs.declared.shown.Head.{Head}
 use Rattle.listing.specs.declared.shown.Found.{Found}
 use Rattle.listing.specs.Rows.{Wrote, Small}
-use Rattle.listing.specs.Listing.{plan_rows_of, plan_count, listing_rows}
+use Rattle.listing.specs.Listing.{plan_rows_of, listing_rows, row_count}
+use Rattle.listing.specs.Laws.Listing.{plan_few}
 use Rattle.jobs.specs.declared.outcome.Outcome.{Outcome}
 use Rattle.jobs.specs.Figures.{answer_figures, result_of, answer_from}
 use Rattle.output.specs.Steps.{Printable, Heads}
@@ -74,6 +75,11 @@ module _ (r : Read) (h : Source r) (o : Outcome) (l : List ℕ) (g : answer_from
   pub printable : Printable (result_of o)
   printable = subst (λ a. Printable a.result) (sym g) (figures_fit r h)
 
+  pub length_small : o.length ≤ room
+  length_small =
+      let n : (result_of o).length ≤ room = subst (λ a. a.result.length ≤ room) (sym g) (rw length-replicate at (listed_small r h (replicate room 0)).0) in
+      omega (arith, n, lengths o)
+
   pub words_small : Small (take o.length l)
   words_small i k =
       let m : (i : ℕ) → i < length (listed (answer_from o l)) → get_or (listed (answer_from o l)) i 0 < 65536 = subst (λ a. (i : ℕ) → i < length (listed a) → get_or (listed a) i 0 < 65536) (sym g) (listed_small r h (replicate room 0)).1 in
@@ -88,7 +94,11 @@ module _ (r : Read) (h : Source r) (o : Outcome) (l : List ℕ) (g : answer_from
 
 -- ---- the plan's rows are shown exactly if a plan was found
 
-refused_number : (c : Refusal) → number_of c ≢ 0
+-- of a valid sheet they are few
+pub rows_few : (f : Option Found) → IfSome f (λ f. Valid f.sheet.now) → (list : List ℕ) → row_count f list ≤ 2 + (most_switches + most_wishes) + length list
+rows_few f v list = omega (arith, plan_few f v)
+
+pub refused_number : (c : Refusal) → number_of c ≢ 0
 refused_number Length e = absurd (omega arith)
 refused_number Malformed e = absurd (omega arith)
 refused_number Order e = absurd (omega arith)
@@ -109,13 +119,24 @@ some_found t e = rw e refl
 pub none_found : (t : Sheet) {r : jobs.Result} (c : Cause) {n : ℕ} → r ≡ refusal (number_of c.refusal) c.place c.column n → [] ≡ found_rows (accepted t) r
 none_found t c e = rw (e, ne_eqb (number_of c.refusal) 0 (refused_number c.refusal)) refl
 
+-- and only where the sheet was accepted
+pub found_valid : (r : Result Sheet Cause) → Source (told r) → (o : Outcome) (l : List ℕ) → answer_from o l ≡ answer_of (told r) (replicate room 0) → (result_of o).number ≡ 0 → (t : Sheet) × (r ≡ Ok t) × Valid t
+found_valid (Ok t) h o l g n = (t, refl, h.valid t refl)
+found_valid (Err c) h o l g n = absurd (refused_number c.refusal (sym (ap (λ a. a.result.number) g) ∙ n))
+
 -- ---- a refusal, of which Answer gives the outcome o, has no rows of a plan and none of patterns
 
-pub refused_rows : (c : Cause) → Source (told (Err c)) → (o : Outcome) → result_of o ≡ refusal (number_of c.refusal) c.place c.column 0 → (d : Head) → Heads (result_of o) d → listing_rows d None [] ≡ output_rows (told (Err c))
-unfolding each
-refused_rows c h o e d heads =
-    let none : o.length ≡ 0 = sym (lengths o) ∙ ap (λ r. r.length) e in
-    rw none at (rows_are (told (Err c)) h o (replicate room 0) (ap (λ r. answered r (replicate room 0)) e) d [] heads refl)
+module _ (c : Cause) (o : Outcome) (e : result_of o ≡ refusal (number_of c.refusal) c.place c.column 0) where
+  -- it is what Answer gives with the program's list
+  pub refused_answer : answer_from o (replicate room 0) ≡ answer_of (told (Err c)) (replicate room 0)
+  refused_answer = ap (λ r. answered r (replicate room 0)) e
+
+  -- and lists nothing
+  pub refused_rows : Source (told (Err c)) → (d : Head) → Heads (result_of o) d → listing_rows d None [] ≡ output_rows (told (Err c))
+  unfolding each
+  refused_rows h d heads =
+      let none : o.length ≡ 0 = sym (lengths o) ∙ ap (λ r. r.length) e in
+      rw none at (rows_are (told (Err c)) h o (replicate room 0) refused_answer d [] heads refl)
 
 -- ---- it is no longer than its buffer
 

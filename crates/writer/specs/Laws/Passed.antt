@@ -43,6 +43,9 @@ pub by_range : (ok : Bool) → Tested ((3, true) ∷ (4, ok) ∷ (6, true) ∷ [
 by_range true = (refl, (refl, (refl, tt)))
 by_range false = later here
 
+pub no_tests : Tested [] (Ok tt)
+no_tests = tt
+
 -- ---- line after line
 
 -- lines that meet their tests stand before the first that does not

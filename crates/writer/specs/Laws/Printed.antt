@@ -1,14 +1,14 @@
 -- The lines of a valid held sheet put into a buffer one after another. Assumes nothing.
-use Rattle.std.specs.Prelude.{ℕ, suc, ◌+◌, ◌*◌, ◌≤◌, ◌<◌, List, [], ◌∷◌, ◌++◌, ◌≡◌, length, take}
+use Rattle.std.specs.Prelude.{ℕ, suc, ◌+◌, ◌*◌, ◌≤◌, ◌<◌, List, [], ◌∷◌, ◌++◌, ◌≡◌, refl, length, take, Ok}
 use Rattle.std.proofs.Common.{suc-mul, mul-le-mul, mul-le-mul_right, add-one, arith, ◌∙◌, take-suc, take_all}
 use Rattle.std.proofs.Math.Path.{sym, ap, ap₂}
 use Rattle.std.proofs.Math.ListN.{drop}
 use Rattle.std.proofs.lemmas.Slice.{take-put_mid}
 use borrow.Rule.Slice.PartMut.{put_mid}
-use Rattle.scope.specs.Sheet.{Line, H, line, line_bytes, text, body, end_line, sheet_lines, sheet_bytes, Valid}
+use Rattle.scope.specs.Sheet.{Sheet, Line, H, line, line_bytes, text, body, end_line, sheet_lines, sheet_bytes, Valid}
 use Rattle.words.specs.Refusals.{number_of}
+use Rattle.words.specs.Told.{told}
 use Rattle.words.specs.declared.refusal.Cause.{Cause}
-use Rattle.std.specs.Prelude.{refl}
 use Rattle.scope.specs.Causes.{accepted, refused, line_size, most_bytes}
 use Rattle.scope.specs.Words.{held}
 use Rattle.scope.specs.Writing.{TablesRead, written, IsWritten}
@@ -76,6 +76,11 @@ module _ (n : ℕ) (wide : 3 ≤ n) (u : List ℕ) where
 
     pub too_short : (out : List ℕ) → length out < (before_end u + 1) * size → IsWritten n u out (written 13 0 0 0 out)
     too_short out h = record { read = accepted (held u); is_read = writing.accepted v; given = sym (left_out n (held u) out (omega (arith, needed))) }
+
+  -- ---- what was read of the words
+
+  pub valid_told : (t : Sheet) → TablesRead n (held u) (told (Ok t)) → Valid (held u)
+  valid_told t (writing.accepted v) = v
 
   -- the first cause is told
   pub fault_told : (c : Cause) → TablesRead n (held u) (refused (number_of c.refusal) c.place c.column) → (out : List ℕ) → IsWritten n u out (written (number_of c.refusal) c.place c.column 0 out)

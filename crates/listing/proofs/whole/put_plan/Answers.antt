@@ -1,7 +1,7 @@
 -- The rows of the wishes are put behind those of the switches.
 use Rattle.std.proofs.Common.{arith}
 use Rattle.listing.specs.Laws.Rows.{part_left, wrote_none, wrote_more}
-use Rattle.listing.specs.Laws.Listing.{switch_count}
+use Rattle.listing.specs.Laws.Listing.{switch_count, plan_few}
 use Rattle.listing.proofs.whole.put_plan.Goals as goal
 
 pub returns-in_default-clause-rows : goal.returns-in_default-clause-rows
@@ -23,6 +23,4 @@ returns-clause-rows c =
     rw c.in-Some.is (wrote_more o.ensures.rows (omega (arith, room, o.ensures.rows.end_is, switch_count f.sheet.now f.plan.0)) c.put_wishes.ensures)
 
 pub returns-clause-few : goal.returns-clause-few
-returns-clause-few c =
-    let v = c.put_switches-middle.ensures.valid in
-    rw c.in-Some.is (omega (arith, v.switches, v.few_wishes))
+returns-clause-few c = plan_few c.args.found (rw c.in-Some.is c.put_switches-middle.ensures.valid)

@@ -1,5 +1,6 @@
 -- By what the line is of; its tests are those that the function of its kind makes.
 use Rattle.std.specs.Prelude.{Ok}
+use Rattle.writer.specs.Laws.Passed.{no_tests}
 use Rattle.writer.specs.Laws.Tests.{fault_of}
 use Rattle.writer.specs.declared.entries.Entry.{Entry}
 use Rattle.writer.proofs.faults.fault_at.Goals as goal
@@ -17,4 +18,4 @@ pub returns-in-Wish : goal.returns-in-Wish
 returns-in-Wish c = fault_of c.args.words.now c.args.k (Entry.Wish c.in-Wish.i) c.in-Wish.ensures _ c.wish_fault.ensures
 
 pub returns-in-End : goal.returns-in-End
-returns-in-End c = fault_of c.args.words.now c.args.k Entry.End c.in-End.ensures (Ok tt) tt
+returns-in-End c = fault_of c.args.words.now c.args.k Entry.End c.in-End.ensures (Ok tt) no_tests
