@@ -21,7 +21,7 @@ pub struct Parsed {
 }
 
 impl Parsed {
-    // With one more gate, at the point after all others.
+    // With one more gate, at the point after all others. (These points are of a text, beyond a sheet's limits too, so they are no `Counts`.)
     pub fn with_gate(self, gate: Gate, known: bool, c: Points, sheet: &mut Words) -> Parsed
         requires { self.gates ≤ most_text }
         ensures { Gated c (gate_from gate) known self result sheet.old sheet.new }

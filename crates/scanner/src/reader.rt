@@ -11,7 +11,7 @@ pub struct Reader<'a> {
     pub at: usize,
 }
 
-// bytes that formulas and wishes are asked for too
+// bytes that formulas and wishes are asked for too (the other form's `field` and `line` name theirs, as no crate is below both)
 pub const SPACE: u8 = b' ';
 
 pub const BANG: u8 = b'!';

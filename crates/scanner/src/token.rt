@@ -42,8 +42,8 @@ fn digit_at(s: &[u8], at: usize) -> Option<u32>
     }
 }
 
-// A number from `at` on, with one or two digits and no leading zero; whether it may be 0. (A flag, as in the scope's slots: two functions
-// would be twins, here and below.)
+// A number from `at` on, with one or two digits and no leading zero; whether it may be 0. (`parse` takes any digits. A flag, as in the
+// scope's slots: two functions would be twins, here and below.)
 pub fn number_at(s: &[u8], at: usize, zero: bool) -> Result<Token, Stuck>
     requires { at ≤ length s.now }
     ensures { NumberRead s.now zero at result }

@@ -88,6 +88,7 @@ pub record Told (at : Typed → State) (s : List ℕ) (v : Typed) (l : Lines) (u
 
 -- ---- rules
 
+-- no wish stands before them (so this is no case of the record for wishes, which has a list of them)
 pub record RulesTold (s : List ℕ) (c : Points) (l : Lines) (u : List ℕ) : Type 0 where
   pub rules : List Formula
   pub told : Told rule_line s (typed c.switches c.faults rules []) l u
