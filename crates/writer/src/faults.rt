@@ -1,6 +1,6 @@
 // The tests of the lines on which a held sheet would stand, made on its words. The lines stand in order and their unused fields hold 0,
 // so that what is left to test are ranges, limits, and what the fields name.
-ghost use Rattle.std.specs.Prelude.{◌≡◌, ℕ, ◌≤◌};
+ghost use Rattle.std.specs.Prelude.{◌≡◌, ℕ, ◌≤◌, ◌+◌};
 ghost use Rattle.scope.specs.Sheet.{plus};
 ghost use Rattle.scope.specs.Causes.{point, literal, literals};
 ghost use Rattle.scope.specs.Words.{literal_from};
@@ -11,13 +11,16 @@ ghost use Rattle.writer.specs.Tested.{named, literals_of, tests_of, line_tests};
 
 use crate::entries::{Entry, entry_on};
 use words::Words;
-use words::counts::counts_of;
+use words::counts::{Counts, counts_of};
 use words::gate::{AND, GATE_SIZE, NOT, OR, gate_words};
 use words::limit::{MOST_FAULTS, MOST_GATES, MOST_RULES, MOST_SWITCHES, MOST_WISHES};
 use words::literal::Literal;
 use words::refusal::{Refusal, require};
 use words::rule::rule_at;
 use words::wish::{Wish, wish_at};
+
+// The words may be any that C lends, so that a kind is a number, and a literal a code or 0. The reader (`causes`) tests numbers of a
+// line the same way; writer and readers do not know each other.
 
 // Whether p is one of m points.
 fn is_point(p: u32, m: usize) -> bool
@@ -61,6 +64,13 @@ fn is_clause(wish: Wish, a: u32) -> bool
     }
 }
 
+// Switches, faults and so many gates.
+fn points(c: Counts, gates: u32) -> usize
+    ensures { result ≡ c.switches + c.faults + gates }
+{
+    c.switches as usize + c.faults as usize + gates as usize
+}
+
 // Each of these makes the tests of its line. A line beyond the limit is not looked at.
 
 fn head_fault(words: &Words) -> Result<(), Refusal>
@@ -77,8 +87,7 @@ fn gate_fault(words: &Words, i: usize) -> Result<(), Refusal>
     ensures { Tested (tests_of words.now (Entry.Gate i)) result }
 {
     require(i < MOST_GATES as usize, Refusal::Limit)?;
-    let c = counts_of(words);
-    let before = c.switches as usize + c.faults as usize + i;
+    let before = points(counts_of(words), i as u32);
     require(is_gate(gate_words(words, i), before), Refusal::Fields)
 }
 
@@ -87,8 +96,10 @@ fn rule_fault(words: &Words, i: usize) -> Result<(), Refusal>
 {
     require(i < MOST_RULES as usize, Refusal::Limit)?;
     let c = counts_of(words);
-    let points = c.switches as usize + c.faults as usize + c.gates as usize;
-    require(is_point(rule_at(words, i), points), Refusal::Fields)
+    require(
+        is_point(rule_at(words, i), points(c, c.gates)),
+        Refusal::Fields,
+    )
 }
 
 fn wish_fault(words: &Words, i: usize) -> Result<(), Refusal>

@@ -20,8 +20,7 @@ use words::wish::{Wish, wish_at};
 
 // The line of these numbers, and zeros behind them.
 fn line_of<const N: usize>(letter: Letter, first: &[Number]) -> Line<N>
-    requires form { (3 ≤ N) × (N ≤ 4) }
-    requires few { length first.now ≤ 3 }
+    requires { length first.now ≤ N }
     ensures { line_from result ≡ line (letter_from letter) (filled N (numbers_from first.now)) }
 {
     let mut numbers = [Number::from(0); N];
@@ -31,7 +30,7 @@ fn line_of<const N: usize>(letter: Letter, first: &[Number]) -> Line<N>
 
 // The words of a gate are its letter and the numbers on its line.
 fn gate_line<const N: usize>(words: [u32; GATE_SIZE]) -> Line<N>
-    requires form { (3 ≤ N) × (N ≤ 4) }
+    requires wide { 2 ≤ N }
     requires gate { IsGate words }
     ensures { line_from result ≡ gate_line N (gate_of_words words) }
 {
@@ -57,31 +56,39 @@ fn number(code: u32) -> Number
 
 // A word 0 stands for no literal, and its number is 0.
 fn wish_line<const N: usize>(wish: Wish) -> Line<N>
-    requires { (3 ≤ N) × (N ≤ 4) }
+    requires { 3 ≤ N }
     ensures { line_from result ≡ wish_line N (clause_from wish) }
 {
     let [x, y, z] = wish;
     line_of(Letter::Wish, &[number(x), number(y), number(z)])
 }
 
-// Line k, counted from 0.
-pub fn line_at<const N: usize>(words: &Words, k: usize) -> Line<N>
-    requires form { (3 ≤ N) × (N ≤ 4) }
-    requires valid { Valid (held words.now) }
-    requires within { k ≤ before_end words.now }
-    ensures { line_from result ≡ line_at N words.now k }
-{
-    match entry_on(words, k) {
-        Entry::Head => {
-            let c = counts_of(words);
-            line_of(
-                Letter::Head,
-                &[Number::from(c.switches), Number::from(c.faults)],
-            )
+// The sheet that these words hold, as lines of N fields.
+#[derive(Clone, Copy)]
+pub struct Lines<'a, const N: usize> {
+    pub words: &'a Words,
+    ghost form: { (3 ≤ N) × (N ≤ 4) },
+}
+
+impl<const N: usize> Lines<'_, N> {
+    // Line k, counted from 0.
+    pub fn at(self, k: usize) -> Line<N>
+        requires valid { Valid (held self.words.now) }
+        requires within { k ≤ before_end self.words.now }
+        ensures { line_from result ≡ line_at N self.entry.words.now k }
+    {
+        match entry_on(self.words, k) {
+            Entry::Head => {
+                let c = counts_of(self.words);
+                line_of(
+                    Letter::Head,
+                    &[Number::from(c.switches), Number::from(c.faults)],
+                )
+            }
+            Entry::Gate(i) => gate_line(gate_words(self.words, i)),
+            Entry::Rule(i) => line_of(Letter::Rule, &[Number::from(rule_at(self.words, i))]),
+            Entry::Wish(i) => wish_line(wish_at(self.words, i)),
+            Entry::End => line_of(Letter::End, &[Number::from(k as u32)]),
         }
-        Entry::Gate(i) => gate_line(gate_words(words, i)),
-        Entry::Rule(i) => line_of(Letter::Rule, &[Number::from(rule_at(words, i))]),
-        Entry::Wish(i) => wish_line(wish_at(words, i)),
-        Entry::End => line_of(Letter::End, &[Number::from(k as u32)]),
     }
 }

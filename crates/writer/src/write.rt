@@ -9,7 +9,7 @@ ghost use Rattle.writer.specs.Returned.{written_from};
 
 use crate::entries::line_count;
 use crate::faults::fault_at;
-use crate::lines::line_at;
+use crate::lines::Lines;
 use field::FIELD_SIZE;
 use line::{FIELD_COUNT, line_size, put_line};
 use words::Words;
@@ -33,15 +33,14 @@ fn first_cause(words: &Words) -> Result<(), Cause>
 }
 
 // Puts the lines, each of N fields, one after another.
-fn put_lines<const N: usize>(words: &Words, out: &mut [u8])
-    requires form { (3 ≤ N) × (N ≤ 4) }
-    requires valid { Valid (held words.now) }
-    requires whole { length out.old ≡ length (sheet_bytes N (held words.now)) }
-    ensures { out.new ≡ sheet_bytes N (held words.now) }
+fn put_lines<const N: usize>(lines: Lines<N>, out: &mut [u8])
+    requires valid { Valid (held lines.words.now) }
+    requires whole { length out.old ≡ length (sheet_bytes N (held lines.words.now)) }
+    ensures { out.new ≡ sheet_bytes N (held lines.entry.words.now) }
 {
     let size = line_size(N);
-    for k in 0..line_count(words) + 1 {
-        let line = line_at::<N>(words, k);
+    for k in 0..line_count(lines.words) + 1 {
+        let line = lines.at(k);
         let at = k * size;
         put_line(
             &mut out[at..at + size],
@@ -61,7 +60,7 @@ fn write_form<const N: usize>(words: &Words, out: &mut [u8]) -> Result<usize, Ca
     if out.len() < need {
         return Err(Cause::at(Refusal::TooShort, 0));
     }
-    put_lines::<N>(words, &mut out[..need]);
+    put_lines(Lines::<N> { words }, &mut out[..need]);
     Ok(need)
 }
 

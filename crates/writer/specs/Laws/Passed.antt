@@ -1,6 +1,7 @@
 -- Lines tested from the first: those passed meet their tests, and the first that does not is where reading the tables stops. Assumes nothing.
-use Rattle.std.specs.Prelude.{ℕ, zero, suc, ◌+◌, ◌≤◌, ◌<◌, Bool, true, false, cond, List, [], ◌∷◌, ◌≡◌, refl, length, get_or, take, Result, Ok, Err}
-use Rattle.std.proofs.Common.{add-one, arith, take-suc, take_all}
+use Rattle.std.specs.Prelude.{ℕ, zero, suc, ◌+◌, ◌≤◌, ◌<◌, Bool, true, false, cond, List, [], ◌∷◌, ◌≡◌, refl, length, get_or, take, Result, Ok, Err, IsErrAnd}
+use Rattle.std.proofs.Common.{add-one, arith, sym, ◌∙◌, take-suc, take_all}
+use Rattle.std.proofs.lemmas.Result.{err_from_is_err_and}
 use Rattle.scope.specs.Sheet.{All, Valid}
 use Rattle.scope.specs.Causes.{Test, Met, First, here, later, refused}
 use Rattle.scope.specs.Texts.{FirstLine}
@@ -38,6 +39,16 @@ module _ (below : Bool) where
       go true true h = (refl, (refl, (refl, tt)))
       go true false h = later (later here)
       go false ok h = cc
+
+-- so of an entry: beyond the limit nothing else is tested, and below it the fields are
+module _ (below fields : Bool) (r : Result Unit Refusal) {x : Result Unit Refusal} (made : x ≡ test below Limit) where
+  pub entry_over : {e : Refusal} → x ≡ Err e → IsErrAnd r (λ d. d ≡ e) → Tested ((3, true) ∷ (5, below) ∷ (6, fields) ∷ []) r
+  entry_over h d =
+      let p = err_from_is_err_and r d in
+      rw (p.1, p.2) (over_limit below (sym made ∙ h))
+
+  pub entry_tested : {ok : Bool} {u : Unit {0}} → x ≡ Ok u → r ≡ test ok Fields → ok ≡ fields → Tested ((3, true) ∷ (5, below) ∷ (6, fields) ∷ []) r
+  entry_tested {ok} h e f = rw (e, ← f) (by_fields below ok (sym made ∙ h))
 
 pub by_range : (ok : Bool) → Tested ((3, true) ∷ (4, ok) ∷ (6, true) ∷ []) (test ok Range)
 by_range true = (refl, (refl, (refl, tt)))

@@ -6,4 +6,4 @@ use Rattle.writer.specs.Entries.{before_end}
 use Rattle.writer.proofs.write.put_lines.Given as goal
 
 abbrev pub invariant-loop-k : goal.invariant-loop-k
-invariant-loop-k g l = (l.k-end ≡ before_end l.words + 1) × (take (l.k * l.size) l.out ≡ text (take l.k (sheet_lines g.row.N (held l.words))))
+invariant-loop-k g l = (l.k-end ≡ before_end l.lines.words.now + 1) × (take (l.k * l.size) l.out ≡ text (take l.k (sheet_lines g.row.N (held l.lines.words.now))))

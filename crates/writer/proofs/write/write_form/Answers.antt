@@ -14,10 +14,10 @@ returns-then-out-need g c =
     let v = c.in_ok-first_cause.ensures g.row.N c.requires.0 in
     rw c.at.ensures (too_short g.row.N c.requires.0 c.args.words.now v c.line_size.result c.line_size.ensures c.args.out.now (rw (← c.line_count.ensures) (omega arith)))
 
-pub put_lines-requires-clause-whole : goal.put_lines-requires-clause-whole
-put_lines-requires-clause-whole g c =
+pub put_lines-requires : goal.put_lines-requires
+put_lines-requires g c =
     let v = c.in_ok-first_cause.ensures g.row.N c.requires.0 in
-    length-take-le _ c.args.out.now (omega arith) ∙ rw c.line_count.ensures (sym (needed g.row.N c.requires.0 c.args.words.now v c.line_size.result c.line_size.ensures))
+    (omega arith, (v, length-take-le _ c.args.out.now (omega arith) ∙ rw c.line_count.ensures (sym (needed g.row.N c.requires.0 c.args.words.now v c.line_size.result c.line_size.ensures))))
 
 pub returns : goal.returns
 returns g c =

@@ -1,0 +1,37 @@
+-- By what the line is of: a valid sheet has room for it, and the words of its gates are their own.
+use Rattle.std.proofs.Common.{arith, sym, ◌∙◌}
+use Rattle.words.specs.Laws.Held.{held_gates, held_rules, held_wishes, gate_kept}
+use Rattle.writer.specs.Laws.Lines.{line_is}
+use Rattle.writer.specs.Laws.Printed.{few_lines}
+use Rattle.writer.specs.declared.entries.Entry.{Entry}
+use Rattle.writer.proofs.lines.Lines.at.Goals as goal
+
+pub gate_words-requires : goal.gate_words-requires
+gate_words-requires g c = omega (arith, c.in-Gate.ensures, c.requires.valid.few_gates, held_gates c.args.self.words.now)
+
+pub gate_line-requires : goal.gate_line-requires
+gate_line-requires g c = (omega arith, (omega (arith, c.args.self.form), rw c.gate_words.ensures (gate_kept c.args.self.words.now c.requires.valid c.in-Gate.i c.in-Gate.ensures.0)))
+
+pub rule_at-requires : goal.rule_at-requires
+rule_at-requires g c = omega (arith, c.in-Rule.ensures, c.requires.valid.few_rules, held_rules c.args.self.words.now)
+
+pub wish_at-requires : goal.wish_at-requires
+wish_at-requires g c = omega (arith, c.in-Wish.ensures, c.requires.valid.few_wishes, held_wishes c.args.self.words.now)
+
+pub overflow_cast-k : goal.overflow_cast-k
+overflow_cast-k g c = omega (arith, few_lines 3 (omega arith) c.args.self.words.now c.requires.valid)
+
+pub returns-in-Head : goal.returns-in-Head
+returns-in-Head g c = (rw (c.from-in-Head.ensures, c.from.ensures, c.counts_of-c.ensures) at c.line_of.ensures) ∙ (sym (line_is g.row.N c.args.self.form.0 c.args.self.words.now c.args.k Entry.Head c.in-Head.ensures))
+
+pub returns-in-Gate : goal.returns-in-Gate
+returns-in-Gate g c = rw (c.gate_line.ensures, c.gate_words.ensures) (sym (line_is g.row.N c.args.self.form.0 c.args.self.words.now c.args.k (Entry.Gate c.in-Gate.i) c.in-Gate.ensures))
+
+pub returns-in-Rule : goal.returns-in-Rule
+returns-in-Rule g c = (rw (c.from-in-Rule.ensures, c.rule_at.ensures) at c.line_of-in-Rule.ensures) ∙ (sym (line_is g.row.N c.args.self.form.0 c.args.self.words.now c.args.k (Entry.Rule c.in-Rule.i) c.in-Rule.ensures))
+
+pub returns-in-Wish : goal.returns-in-Wish
+returns-in-Wish g c = rw (c.wish_line.ensures, c.wish_at.ensures) (sym (line_is g.row.N c.args.self.form.0 c.args.self.words.now c.args.k (Entry.Wish c.in-Wish.i) c.in-Wish.ensures))
+
+pub returns-in-End : goal.returns-in-End
+returns-in-End g c = (rw (c.from-in-End.ensures, c.in-End.ensures) at c.line_of-in-End.ensures) ∙ (sym (line_is g.row.N c.args.self.form.0 c.args.self.words.now c.args.k Entry.End c.in-End.ensures))
