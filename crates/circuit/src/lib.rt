@@ -2,7 +2,8 @@
 // pattern that the plan does not pass, and the wishes that it breaks.
 //
 // The sheet is a valid one (`words::sheet::Sheet`). Every promise is an equation with a definition of the
-// crate `scope` over it.
+// crate `scope` over it. Sheet and plan are two arguments: of one sheet many plans are tried, and a struct of
+// both would be made for each call alone, `With { sheet, plan }.cost()` for `cost(sheet, plan)`.
 #![tactic(auto)]
 
 pub mod point;

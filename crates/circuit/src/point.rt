@@ -8,7 +8,8 @@ use words::gate::Gate;
 use words::sheet::Sheet;
 use words::{Pattern, Plan};
 
-// Digit p of n binary digits of a number, the first highest.
+// Digit p of n binary digits of a number, the first highest. That p is among n is asked here, and where a switch or a point is named, each
+// of its own n: a type for it would be made of both, by the same test, in every call.
 #[tactic(auto, using(scope::proofs::Laws::Points::bits_at))]
 pub(crate) fn digit(number: u32, n: u32, p: u32) -> bool
     requires { (n ≤ 32) × Among n p }

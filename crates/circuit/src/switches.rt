@@ -41,7 +41,7 @@ impl Switches {
         digit(self.plan.0, self.count, k)
     }
 
-    // Whether they make the literal with this code true; no literal is not.
+    // Whether they make the literal with this code true; 0, which the tables for C have where there is none, is not.
     fn makes(self, code: u32) -> bool
         requires { All (λ l. Among self.count l.size) (literals_of code) }
         ensures { result ≡ keeps (nth (bits self.count self.plan.0)) (literals_of code) }

@@ -3,7 +3,7 @@ ghost use Rattle.std.specs.Prelude.{◌≡◌, ◌≤◌, ◌<◌, length, IfSom
 ghost use Rattle.scope.specs.Causes.{accepted};
 ghost use Rattle.scope.specs.Jobs.{answer_of, short_of, first_high};
 ghost use Rattle.jobs.specs.Figures.{result_of, answer_from};
-ghost use Rattle.jobs.specs.Steps.{run_figures, high_of};
+ghost use Rattle.jobs.specs.Steps.{high_of};
 
 use crate::outcome::Outcome;
 use circuit::rule::power;
@@ -13,13 +13,18 @@ use words::refusal::{Cause, Refusal};
 use words::sheet::Sheet;
 
 // What a full run comes to.
-fn run_outcome(run: Run) -> Outcome
-    ensures figures { result_of result ≡ run_figures run }
-    ensures length { result.length ≡ run.length }
-{
-    match run.best {
-        Ok(best) => Outcome::best(best, run.length),
-        Err(NoRoom) => Outcome::refused(Cause::at(Refusal::NoRoom, 0), run.length),
+impl From<Run> for Outcome {
+    ghost use Rattle.std.specs.Prelude.{◌≡◌};
+    ghost use Rattle.jobs.specs.Figures.{result_of};
+    ghost use Rattle.jobs.specs.Steps.{run_figures};
+
+    ghost from_gives = { λ run o. (result_of o ≡ run_figures run) × (o.length ≡ run.length) };
+
+    fn from(run: Run) -> Outcome {
+        match run.best {
+            Ok(best) => Outcome::best(best, run.length),
+            Err(NoRoom) => Outcome::refused(Cause::at(Refusal::NoRoom, 0), run.length),
+        }
     }
 }
 
@@ -28,7 +33,7 @@ pub fn answer(sheet: &Sheet, list: &mut [u32]) -> Outcome
     ensures answer { answer_from result list.new ≡ answer_of (accepted sheet.now) list.old }
     ensures within { result.length ≤ length list.old }
 {
-    run_outcome(run_rounds(sheet, list))
+    Outcome::from(run_rounds(sheet, list))
 }
 
 // The place, from 0, of the first word that is not below the bound.

@@ -11,13 +11,15 @@ use search::best::Candidate;
 use words::Pattern;
 use words::refusal::{Cause, Refusal};
 
-// What Answer and Short run return: the best plan, or why there is none, and where; and the list's length.
+// What Answer and Short run return: the best plan, or why there is none, and where; and the length of the list, which C has lent and
+// gets apart.
 #[derive(Clone, Copy)]
 pub struct Outcome {
     pub answer: Result<Candidate, Cause>,
     pub length: usize,
 }
 
+// The length goes with what each is made of, so there is no `From`.
 impl Outcome {
     pub fn refused(cause: Cause, length: usize) -> Outcome
         ensures { result_of result ≡ refusal (number_of cause.refusal) cause.place cause.column length }

@@ -29,7 +29,8 @@ fn next(sheet: &Sheet, candidate: Option<Candidate>) -> Option<Pattern>
     first_missed(sheet, candidate?.plan)
 }
 
-// Rounds until the run ends: the list goes into `list`, and words after it keep their content.
+// Rounds until the run ends: the list goes into `list`, and words after it keep their content. A `for` over the room would have the last
+// round, which finds whether the list is longer, once more behind it. The length stands beside the list, as C gets both.
 pub fn run_rounds(sheet: &Sheet, list: &mut [u32]) -> Run
     ensures { Ran (task sheet.now) list.old result list.new }
 {

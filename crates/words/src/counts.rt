@@ -40,7 +40,7 @@ pub fn counts_of(words: &Words) -> Counts
     }
 }
 
-// The words with so many switches and faults.
+// The words with so many switches and faults: a head has these two alone of the counts.
 #[tactic(auto, using(crate::specs::Laws::Puts::head_put))]
 pub fn put_head(words: &mut Words, switches: u32, faults: u32)
     ensures { HeadPut switches faults words.old words.new }

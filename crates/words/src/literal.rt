@@ -11,6 +11,7 @@ pub struct Literal {
 }
 
 impl Literal {
+    // No `From`, since only a small switch has a code.
     pub fn code(self) -> u32
         requires { self.switch ≤ 99 }
         ensures { result ≡ scope.literal_code (literal_of self) }

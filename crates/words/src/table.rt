@@ -17,7 +17,7 @@ pub struct Table<const N: usize> {
     ghost inside: { first + most * N ≤ word_count },
 }
 
-// Entry i, counted from 0.
+// Entry i, counted from 0. Each table has a limit of its own, so a type of index would be one for each, made by the same test.
 pub fn entry<const N: usize>(table: Table<N>, words: &Words, i: usize) -> [u32; N]
     requires { i < table.most }
     ensures { result ≡ entry_at table.entry.first N words.now i }

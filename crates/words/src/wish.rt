@@ -9,7 +9,7 @@ use crate::limit::{MOST_LITERALS, MOST_RULES, MOST_WISHES};
 use crate::rule::FIRST_RULE;
 use crate::table::{Table, entry, push};
 
-// A wish: the codes of its literals, and then zeros.
+// A wish: the codes of its literals, and then zeros, as the tables of the calls for C have it.
 pub const WISH_SIZE: usize = MOST_LITERALS;
 
 pub type Wish = [u32; WISH_SIZE];
