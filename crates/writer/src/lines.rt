@@ -1,9 +1,9 @@
 // The lines of a valid held sheet, one by one.
-ghost use Rattle.std.specs.Prelude.{◌≡◌, ◌≤◌, length};
-ghost use Rattle.scope.specs.Sheet.{line, filled, gate_line, wish_line, Valid};
+ghost use Rattle.std.specs.Prelude.{[], ◌∷◌, ◌≡◌, ◌≤◌};
+ghost use Rattle.scope.specs.Sheet.{plus, line, filled, gate_line, wish_line, Valid};
 ghost use Rattle.scope.specs.Words.{literal_from, held};
 ghost use Rattle.field.specs.Columns.{number_from};
-ghost use Rattle.line.specs.Lines.{letter_from, numbers_from, line_from};
+ghost use Rattle.line.specs.Lines.{letter_from, line_from};
 ghost use Rattle.words.specs.Entries.{gate_of_words, clause_from};
 ghost use Rattle.writer.specs.Entries.{before_end};
 ghost use Rattle.writer.specs.Lines.{IsGate, line_at};
@@ -18,28 +18,43 @@ use words::literal::Literal;
 use words::rule::rule_at;
 use words::wish::{Wish, wish_at};
 
-// The line of these numbers, and zeros behind them.
-fn line_of<const N: usize>(letter: Letter, first: &[Number]) -> Line<N>
-    requires { length first.now ≤ N }
-    ensures { line_from result ≡ line (letter_from letter) (filled N (numbers_from first.now)) }
+// The line of these numbers, and zeros behind them. They are put one by one: copied as a part of an array they pass through memory, and
+// writing a full sheet misses its bar.
+fn line_of<const N: usize>(letter: Letter, x: Number, y: Number, z: Number) -> Line<N>
+    requires { 3 ≤ N }
+    ensures { line_from result ≡ line (letter_from letter) (filled N (number_from x ∷ number_from y ∷ number_from z ∷ [])) }
 {
     let mut numbers = [Number::from(0); N];
-    numbers[..first.len()].copy_from_slice(first);
+    numbers[0] = x;
+    numbers[1] = y;
+    numbers[2] = z;
     Line { letter, numbers }
+}
+
+// The line of two numbers that are not below 0.
+fn plain_line<const N: usize>(letter: Letter, x: u32, y: u32) -> Line<N>
+    requires { 3 ≤ N }
+    ensures { line_from result ≡ line (letter_from letter) (filled N (plus x ∷ plus y ∷ [])) }
+{
+    line_of(
+        letter,
+        Number::from(x),
+        Number::from(y),
+        Number::from(0),
+    )
 }
 
 // The words of a gate are its letter and the numbers on its line.
 fn gate_line<const N: usize>(words: [u32; GATE_SIZE]) -> Line<N>
-    requires wide { 2 ≤ N }
+    requires wide { 3 ≤ N }
     requires gate { IsGate words }
     ensures { line_from result ≡ gate_line N (gate_of_words words) }
 {
     let [kind, left, right] = words;
-    let (left, right) = (Number::from(left), Number::from(right));
     match kind {
-        NOT => line_of(Letter::Not, &[left]),
-        AND => line_of(Letter::And, &[left, right]),
-        _ => line_of(Letter::Or, &[left, right]),
+        NOT => plain_line(Letter::Not, left, 0),
+        AND => plain_line(Letter::And, left, right),
+        _ => plain_line(Letter::Or, left, right),
     }
 }
 
@@ -60,7 +75,7 @@ fn wish_line<const N: usize>(wish: Wish) -> Line<N>
     ensures { line_from result ≡ wish_line N (clause_from wish) }
 {
     let [x, y, z] = wish;
-    line_of(Letter::Wish, &[number(x), number(y), number(z)])
+    line_of(Letter::Wish, number(x), number(y), number(z))
 }
 
 // The sheet that these words hold, as lines of N fields.
@@ -80,15 +95,12 @@ impl<const N: usize> Lines<'_, N> {
         match entry_on(self.words, k) {
             Entry::Head => {
                 let c = counts_of(self.words);
-                line_of(
-                    Letter::Head,
-                    &[Number::from(c.switches), Number::from(c.faults)],
-                )
+                plain_line(Letter::Head, c.switches, c.faults)
             }
             Entry::Gate(i) => gate_line(gate_words(self.words, i)),
-            Entry::Rule(i) => line_of(Letter::Rule, &[Number::from(rule_at(self.words, i))]),
+            Entry::Rule(i) => plain_line(Letter::Rule, rule_at(self.words, i), 0),
             Entry::Wish(i) => wish_line(wish_at(self.words, i)),
-            Entry::End => line_of(Letter::End, &[Number::from(k as u32)]),
+            Entry::End => plain_line(Letter::End, k as u32, 0),
         }
     }
 }

@@ -1,8 +1,7 @@
 -- A line's numbers filled up with zeros: a zero at the end changes nothing. Assumes nothing.
-use Rattle.std.specs.Prelude.{ℕ, zero, suc, ◌-◌, ◌≤◌, ◌<◌, Bool, true, false, cond, List, [], ◌∷◌, ◌++◌, ◌≡◌, eqb, length, drop, replicate}
+use Rattle.std.specs.Prelude.{ℕ, zero, suc, ◌-◌, ◌≤◌, ◌<◌, Bool, true, false, cond, List, [], ◌∷◌, ◌++◌, ◌≡◌, eqb, length, replicate, set}
 use Rattle.std.proofs.Common.{arith, append_assoc, ◌∙◌, eqb-true}
 use Rattle.std.proofs.Math.Path.{refl, ap₂}
-use Rattle.std.proofs.lemmas.List.{map-append, drop-replicate, length-map}
 use Rattle.scope.specs.Sheet.{Number, plus, filled}
 use Rattle.scope.specs.Words.{literal_from, clause_of}
 use Rattle.scope.proofs.Laws.Lists.{length_snoc}
@@ -38,5 +37,15 @@ zeros_from : (k : ℕ) (o : made.Number) → number_from o ≡ plus 0 → number
 zeros_from zero o z = refl
 zeros_from (suc k) o z = ap₂ (λ x xs. x ∷ xs) z (zeros_from k o z)
 
-pub numbers_filled : (n : ℕ) (xs ys : List made.Number) (o : made.Number) → ys ≡ xs → number_from o ≡ plus 0 → numbers_from (ys ++ drop (length xs) (replicate n o)) ≡ filled n (numbers_from xs)
-numbers_filled n xs ys o e z = rw (e, map-append, drop-replicate, zeros_from (n - length xs) o z, length-map)
+pub three_filled : (n : ℕ) → 3 ≤ n → (x y z o : made.Number) → number_from o ≡ plus 0 → numbers_from (set (set (set (replicate n o) 0 x) 1 y) 2 z) ≡ filled n (number_from x ∷ number_from y ∷ number_from z ∷ [])
+three_filled zero h x y z o e = absurd (omega arith)
+three_filled (suc zero) h x y z o e = absurd (omega arith)
+three_filled (suc (suc zero)) h x y z o e = absurd (omega arith)
+three_filled (suc (suc (suc k))) h x y z o e = let m : suc (suc (suc k)) - 3 ≡ k = omega arith in rw (m, zeros_from k o e) refl
+
+-- so many zeros as there is no number for
+pub one_filled : (n : ℕ) → 2 ≤ n → (p : Number) → filled n (p ∷ plus 0 ∷ []) ≡ filled n (p ∷ [])
+one_filled n h p = zero_filled n (p ∷ []) (omega arith)
+
+pub two_filled : (n : ℕ) → 3 ≤ n → (p q : Number) → filled n (p ∷ q ∷ plus 0 ∷ []) ≡ filled n (p ∷ q ∷ [])
+two_filled n h p q = zero_filled n (p ∷ q ∷ []) (omega arith)

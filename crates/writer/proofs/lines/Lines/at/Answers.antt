@@ -1,6 +1,8 @@
 -- By what the line is of: a valid sheet has room for it, and the words of its gates are their own.
-use Rattle.std.proofs.Common.{arith, sym, ◌∙◌}
+use Rattle.std.proofs.Common.{arith, sym, ap, ◌∙◌}
+use Rattle.scope.specs.Sheet.{plus, R, Z, line}
 use Rattle.words.specs.Laws.Held.{held_gates, held_rules, held_wishes, gate_kept}
+use Rattle.writer.specs.Laws.Filled.{one_filled}
 use Rattle.writer.specs.Laws.Lines.{line_is}
 use Rattle.writer.specs.Laws.Printed.{few_lines}
 use Rattle.writer.specs.declared.entries.Entry.{Entry}
@@ -22,16 +24,18 @@ pub overflow_cast-k : goal.overflow_cast-k
 overflow_cast-k g c = omega (arith, few_lines 3 (omega arith) c.args.self.words.now c.requires.valid)
 
 pub returns-in-Head : goal.returns-in-Head
-returns-in-Head g c = (rw (c.from-in-Head.ensures, c.from.ensures, c.counts_of-c.ensures) at c.line_of.ensures) ∙ (sym (line_is g.row.N c.args.self.form.0 c.args.self.words.now c.args.k Entry.Head c.in-Head.ensures))
+returns-in-Head g c = (rw c.counts_of-c.ensures at c.plain_line.ensures) ∙ (sym (line_is g.row.N c.args.self.form.0 c.args.self.words.now c.args.k Entry.Head c.in-Head.ensures))
 
 pub returns-in-Gate : goal.returns-in-Gate
 returns-in-Gate g c = rw (c.gate_line.ensures, c.gate_words.ensures) (sym (line_is g.row.N c.args.self.form.0 c.args.self.words.now c.args.k (Entry.Gate c.in-Gate.i) c.in-Gate.ensures))
 
 pub returns-in-Rule : goal.returns-in-Rule
-returns-in-Rule g c = (rw (c.from-in-Rule.ensures, c.rule_at.ensures) at c.line_of-in-Rule.ensures) ∙ (sym (line_is g.row.N c.args.self.form.0 c.args.self.words.now c.args.k (Entry.Rule c.in-Rule.i) c.in-Rule.ensures))
+returns-in-Rule g c =
+    (rw c.rule_at.ensures at c.plain_line-in-Rule.ensures) ∙ ap (line R) (one_filled g.row.N (omega (arith, c.args.self.form.0)) (plus _)) ∙ (sym (line_is g.row.N c.args.self.form.0 c.args.self.words.now c.args.k (Entry.Rule c.in-Rule.i) c.in-Rule.ensures))
 
 pub returns-in-Wish : goal.returns-in-Wish
 returns-in-Wish g c = rw (c.wish_line.ensures, c.wish_at.ensures) (sym (line_is g.row.N c.args.self.form.0 c.args.self.words.now c.args.k (Entry.Wish c.in-Wish.i) c.in-Wish.ensures))
 
 pub returns-in-End : goal.returns-in-End
-returns-in-End g c = (rw (c.from-in-End.ensures, c.in-End.ensures) at c.line_of-in-End.ensures) ∙ (sym (line_is g.row.N c.args.self.form.0 c.args.self.words.now c.args.k Entry.End c.in-End.ensures))
+returns-in-End g c =
+    (rw c.in-End.ensures at c.plain_line-in-End.ensures) ∙ ap (line Z) (one_filled g.row.N (omega (arith, c.args.self.form.0)) (plus _)) ∙ (sym (line_is g.row.N c.args.self.form.0 c.args.self.words.now c.args.k Entry.End c.in-End.ensures))
