@@ -1,4 +1,5 @@
-// What may stand in the fields of a line: the tests of the scope, over numbers.
+// What may stand in the fields of a line: the tests of the scope, over numbers. `writer` makes them of words and codes, which have no
+// sign: a line each, and one function for both would have to make a `Number` of each word first.
 ghost use Rattle.std.specs.Prelude.{◌≡◌, ◌&&◌, ◌≤◌, length, take, drop};
 ghost use Rattle.std.specs.List.{list_all};
 ghost use Rattle.scope.specs.Sheet.{most_switches, most_faults, most_literals};
@@ -10,6 +11,7 @@ ghost use Rattle.causes.specs.Tests.{point_test, are_points};
 use field::Number;
 use words::limit::{MOST_FAULTS, MOST_LITERALS, MOST_SWITCHES};
 
+// By hand, as a `Number` has no order.
 fn is_up_to(x: Number, m: u32) -> bool
     ensures { result ≡ up_to m (number_from x) }
 {

@@ -70,7 +70,7 @@ impl<const N: usize> Place<N> {
         self.is_between() && (self.before.rules == 0 && self.before.wishes == 0)
     }
 
-    // The points that stand before the line: a gate may name no other.
+    // The points that stand before the line: a gate may name no other. `writer` adds counts that may be any words, and so as `usize`.
     fn points(&self) -> u32
         ensures { (t : Sheet) → self.now.before ≡ counts_from t → result ≡ points t }
     {

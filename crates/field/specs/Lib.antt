@@ -1,4 +1,2 @@
--- steps of the code, which no promise of an exported call names: reading
+-- steps of the code, which no promise of an exported call names
 pub mod Columns
--- and printing
-pub mod Fields

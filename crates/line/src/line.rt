@@ -17,7 +17,7 @@ pub struct Line<const N: usize> {
     pub numbers: [Number; N],
 }
 
-// The bytes of a line of n fields.
+// The bytes of a line of n fields. A constant can call no function, so that `listing` writes the size of its rows out again.
 pub fn line_size(n: usize) -> usize
     requires { n ≤ 4 }
     ensures { result ≡ line_size n }

@@ -30,7 +30,7 @@ fn put_fields(out: &mut [u8], numbers: &[Number])
     }
 }
 
-// Puts a line into its bytes: a letter, which may be one that no sheet has, and its numbers.
+// Puts a line into its bytes. The letter is a byte, and no `Line` is taken, since the rows of listings have letters of their own.
 pub fn put_line(out: &mut [u8], letter: u8, numbers: &[Number])
     requires fit { Fit (numbers_from numbers.now) }
     requires whole { length out.old ≡ line_size (length numbers.now) }

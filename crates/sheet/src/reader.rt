@@ -26,6 +26,9 @@ use words::{WORDS, Words};
 // H, Z and as many others as there may be
 const MOST_LINES: usize = (MOST_GATES + MOST_RULES + MOST_WISHES) as usize + 2;
 
+// In promises `3 ≤ N` and `N ≤ 4` say which forms there may be. A type with these facts would have no field, and be handed through the
+// same functions.
+
 // ---- a line that met its tests, into the words
 
 fn code(x: Number) -> u32
@@ -48,6 +51,7 @@ fn wish_of(numbers: &[Number]) -> Wish
     [code(numbers[0]), code(numbers[1]), code(numbers[2])]
 }
 
+// A letter has an entry of its own: closures would be these arms.
 fn take_line<const N: usize>(words: &mut Words, line: &Line<N>)
     requires wide { 3 ≤ N }
     requires suited { Suited (line_from line.now) }

@@ -1,7 +1,6 @@
 -- A field that is formed goes to those held, and one that is not stops the whole; at the end only the line feed is left.
 use Rattle.std.proofs.Common.{arith, refl}
-use Rattle.std.proofs.lemmas.List.{length-replicate}
-use Rattle.line.proofs.Fields.{begun, field-taken, field-lost, line-fed, not-fed}
+use Rattle.line.proofs.Fields.{field-taken, field-lost, line-fed, not-fed}
 use Rattle.line.proofs.read.fields_at.Goals as goal
 
 pub loop-i-preserved : goal.loop-i-preserved
