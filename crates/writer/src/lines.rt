@@ -28,6 +28,8 @@ fn line_of<const N: usize>(letter: Letter, first: &[Number]) -> Line<N>
     Line { letter, numbers }
 }
 
+// An entry's words as its line: by functions, since a `From` may ask for nothing, and these types are of other crates.
+
 // The words of a gate are its letter and the numbers on its line.
 fn gate_line<const N: usize>(words: [u32; GATE_SIZE]) -> Line<N>
     requires wide { 2 ≤ N }
