@@ -24,7 +24,8 @@ use writer::write::write;
 pub use listing::whole::MOST_LISTING;
 pub use writer::write::MOST_SHEET;
 
-// The A line of an outcome: its number, its place, and the column of a malformed line or else the cost.
+// The A line of an outcome: its number, its place, and the column of a malformed line or else the cost. No `From`, which could not ask
+// that these fit their fields.
 fn head(outcome: Outcome) -> Head
     requires { Printable (result_of outcome) }
     ensures { Heads (result_of outcome) result }
@@ -45,6 +46,9 @@ fn head(outcome: Outcome) -> Head
         }
     }
 }
+
+// What is told has to be a source. A struct around it with that fact would lose it at the match, where the sheet or the cause is handed
+// on.
 
 // Puts the listing of Answer's outcome at the beginning of `out`, and returns its length.
 fn put_answer(sheet: &Sheet, out: &mut [u8]) -> usize

@@ -1,4 +1,5 @@
-// The calls for C and Rust. Each returns the number, and writes every other figure through a pointer.
+// The calls for C and Rust. Each returns the number, or the length of a listing, and writes every other figure through a pointer, as C
+// has no `Result` and no `Option`; and each form has calls of its own, as C has no parameters for types.
 ghost use Rattle.std.specs.Prelude.{[], ◌∷◌, ◌≡◌, IfOk, IfErr};
 ghost use Rattle.scope.specs.Sheet.{field_count};
 ghost use Rattle.scope.specs.Sheets.{SheetRead};
@@ -40,7 +41,7 @@ fn hand_cause(done: Result<(), Cause>, place: &mut usize, column: &mut usize) ->
     }
 }
 
-// Hands the figures out. Those of a plan are 0 where there is none.
+// Hands the figures out. Those of a plan are 0 where there is none. A rating's are others, and `hand_cause` has what both share.
 fn hand_out(
     outcome: Outcome,
     place: &mut usize,

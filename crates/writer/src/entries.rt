@@ -5,7 +5,8 @@ ghost use Rattle.writer.specs.Entries.{before_end, LineOf};
 use words::Words;
 use words::counts::counts_of;
 
-// What a line is of: the counts of switches and faults, an entry, counted from 0, or the end.
+// What a line is of: the counts of switches and faults, an entry, counted from 0, or the end. A line's tests are one match of these, and
+// its bytes another: a table of closures would have the same five arms.
 #[derive(Clone, Copy)]
 pub enum Entry {
     Head,
@@ -23,7 +24,7 @@ pub fn line_count(words: &Words) -> usize
     1 + c.gates as usize + c.rules as usize + c.wishes as usize
 }
 
-// What line k is of, counted from 0.
+// What line k is of, counted from 0. Callers count k by `for`, so that a type for its range would say no more than the range.
 pub fn entry_on(words: &Words, k: usize) -> Entry
     requires { k ≤ before_end words.now }
     ensures { LineOf words.now k result }

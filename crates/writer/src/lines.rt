@@ -44,6 +44,8 @@ fn plain_line<const N: usize>(letter: Letter, x: u32, y: u32) -> Line<N>
     )
 }
 
+// An entry's words as its line: by functions, since a `From` may ask for nothing, and these types are of other crates.
+
 // The words of a gate are its letter and the numbers on its line.
 fn gate_line<const N: usize>(words: [u32; GATE_SIZE]) -> Line<N>
     requires wide { 3 ≤ N }

@@ -32,7 +32,7 @@ fn first_cause(words: &Words) -> Result<(), Cause>
     Ok(())
 }
 
-// Puts the lines, each of N fields, one after another.
+// Puts the lines, each of N fields, one after another: by places, as nothing is known of what a loop over `chunks_exact_mut` leaves.
 fn put_lines<const N: usize>(lines: Lines<N>, out: &mut [u8])
     requires valid { Valid (held lines.words.now) }
     requires whole { length out.old ≡ length (sheet_bytes N (held lines.words.now)) }

@@ -1,10 +1,10 @@
 -- Rows put into a buffer, one after another. Assumes nothing.
 use Prim.Native.Char.{Char}
 use Rattle.std.specs.Prelude.{ℕ, zero, suc, ◌+◌, ◌-◌, ◌*◌, ◌≤◌, ◌<◌, ◌≡◌, refl, List, [], ◌∷◌, ◌++◌, map, length, get_or, take, drop}
-use Rattle.std.proofs.Common.{add-zero, add-one, suc-add, add-suc, arith, sym, ap, ap₂, subst, ◌∙◌, append_assoc, append-nil, length-append, length-drop, drop_at, take_at, take_all, take-suc, length-take-le, drop-drop, ext_get_or}
+use Rattle.std.proofs.Common.{add-zero, add-one, suc-add, add-suc, arith, sym, ap, ap₂, subst, ◌∙◌, append_assoc, append-nil, length-append, length-drop, drop_at, take_at, take_all, take-suc, length-take-le, drop-drop, ext_get_or, get_or-append-add}
 use Rattle.std.proofs.Math.Decide.{dec_lt}
 use Rattle.std.proofs.Math.ListN.{get_or-append, get_or-map}
-use Rattle.std.proofs.Math.Seq.{get_or-append-add, take-length}
+use Rattle.std.proofs.Math.Seq.{take-length}
 use Rattle.std.proofs.lemmas.List.{drop_all, length-map}
 use Rattle.std.proofs.lemmas.Grind.{get_or_default_zero}
 use borrow.Rule.Slice.PartMut.{put_mid, mid_of}

@@ -1,6 +1,6 @@
 -- A typed text turned into its sheet: what the writer gives for the words of an accepted text, and the listing of a refusal. Assumes nothing.
 use Rattle.std.specs.Prelude.{ℕ, ◌≤◌, ◌<◌, true, List, ◌≡◌, refl, is_ok, unwrap_or, Result, Ok, Err}
-use Rattle.std.proofs.Common.{arith, sym, ◌∙◌}
+use Rattle.std.proofs.Common.{arith, ◌∙◌}
 use Rattle.std.proofs.Math.Path.{ap}
 use Rattle.std.proofs.Math.ListN.{length}
 use borrow.Author.Tests.{le-leb, le-ltb}
@@ -10,7 +10,7 @@ use Rattle.scope.specs.Words.{held}
 use Rattle.scope.specs.Writing.{WriteResult, written, written_of, IsWritten}
 use Rattle.scope.specs.Jobs.{over}
 use Rattle.scope.specs.Source.{Source}
-use Rattle.scope.specs.Program.{Row, output, output_rows, listing_result, converted, converted_of, IsConverted}
+use Rattle.scope.specs.Program.{output, output_rows, listing_result, converted, converted_of, IsConverted}
 use Rattle.scope.proofs.Claims.{converted_fits}
 use Rattle.scope.proofs.Laws.TableReads.{valid_read}
 use Rattle.std.specs.Result.{result_ok}

@@ -1,10 +1,10 @@
 -- The listing of what Answer returned is the program's output. Assumes nothing.
-use Rattle.std.specs.Prelude.{ℕ, ◌+◌, ◌≤◌, ◌<◌, Bool, true, false, cond, List, [], ◌∷◌, ◌++◌, ◌≢◌, ◌≡◌, refl, ltb, length, get_or, take, drop, replicate, Option, Some, None, IfSome, Result, Ok, Err}
+use Rattle.std.specs.Prelude.{ℕ, ◌+◌, ◌≤◌, ◌<◌, Bool, true, false, cond, List, [], ◌∷◌, ◌++◌, ◌≢◌, ◌≡◌, refl, ltb, length, get_or, take, drop, replicate, Option, None, IfSome, Result, Ok, Err}
 use Rattle.std.proofs.Common.{arith, sym, ap₂, subst, ◌∙◌, length-append, length-drop, leb-true, lt-ltb, le-ltb, ne_eqb}
 use Rattle.std.proofs.Math.Path.{ap}
 use Rattle.std.proofs.lemmas.List.{length-replicate}
 use Rattle.scope.specs.Sheet.{Sheet, fits, most_switches, most_wishes, All, Valid}
-use Rattle.scope.specs.Causes.{Read, accepted, refused}
+use Rattle.scope.specs.Causes.{Read, accepted}
 use Rattle.scope.specs.Source.{Source}
 use Rattle.scope.specs.Jobs.{refusal, found, Answer, answered, answer_of, over}
 use Rattle.scope.specs.Jobs as jobs
@@ -19,7 +19,7 @@ use Rattle.words.specs.Told.{told}
 use Rattle.listing.specs.declared.shown.Head.{Head}
 use Rattle.listing.specs.declared.shown.Found.{Found}
 use Rattle.listing.specs.Rows.{Wrote, Small}
-use Rattle.listing.specs.Listing.{plan_rows_of, listing_rows, row_count}
+use Rattle.listing.specs.Listing.{listing_rows, row_count}
 use Rattle.listing.specs.Laws.Listing.{plan_few}
 use Rattle.jobs.specs.declared.outcome.Outcome.{Outcome}
 use Rattle.jobs.specs.Figures.{answer_figures, result_of, answer_from}

@@ -1,7 +1,6 @@
 -- A line's numbers filled up with zeros: a zero at the end changes nothing. Assumes nothing.
-use Rattle.std.specs.Prelude.{ℕ, zero, suc, ◌-◌, ◌≤◌, ◌<◌, Bool, true, false, cond, List, [], ◌∷◌, ◌++◌, ◌≡◌, eqb, length, replicate, set}
-use Rattle.std.proofs.Common.{arith, append_assoc, ◌∙◌, eqb-true}
-use Rattle.std.proofs.Math.Path.{refl, ap₂}
+use Rattle.std.specs.Prelude.{ℕ, zero, suc, ◌-◌, ◌≤◌, ◌<◌, Bool, true, false, cond, List, [], ◌∷◌, ◌++◌, ◌≡◌, eqb, length, replicate, set, refl}
+use Rattle.std.proofs.Common.{arith, append_assoc, ◌∙◌, eqb-true, ap₂}
 use Rattle.scope.specs.Sheet.{Number, plus, filled}
 use Rattle.scope.specs.Words.{literal_from, clause_of}
 use Rattle.scope.proofs.Laws.Lists.{length_snoc}

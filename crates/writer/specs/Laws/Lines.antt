@@ -1,8 +1,6 @@
 -- The lines of a held sheet, one by one. Assumes nothing.
-use Rattle.std.specs.Prelude.{ℕ, zero, suc, ◌+◌, ◌≤◌, ◌<◌, List, [], ◌∷◌, ◌++◌, map, ◌≡◌, refl, length}
-use Rattle.std.proofs.Common.{zero-add, suc-add, arith, ◌∙◌}
-use Rattle.std.proofs.Math.Path.{ap}
-use Rattle.std.proofs.Math.ListN.{get_or}
+use Rattle.std.specs.Prelude.{ℕ, zero, suc, ◌+◌, ◌≤◌, ◌<◌, List, [], ◌∷◌, ◌++◌, map, ◌≡◌, refl, length, get_or}
+use Rattle.std.proofs.Common.{zero-add, suc-add, arith, ◌∙◌, ap}
 use Rattle.scope.specs.Sheet.{Sheet, H, Line, line, gate_line, rule_line, wish_line, end_line, body, sheet_lines}
 use Rattle.scope.specs.Words.{word, no_gate, held}
 use Rattle.scope.proofs.Laws.Lists.{to_right}

@@ -1,8 +1,6 @@
 -- The lines of a valid held sheet put into a buffer one after another. Assumes nothing.
-use Rattle.std.specs.Prelude.{ℕ, suc, ◌+◌, ◌*◌, ◌≤◌, ◌<◌, List, [], ◌∷◌, ◌++◌, ◌≡◌, refl, length, take, Ok}
-use Rattle.std.proofs.Common.{suc-mul, mul-le-mul, mul-le-mul_right, add-one, arith, ◌∙◌, take-suc, take_all}
-use Rattle.std.proofs.Math.Path.{sym, ap, ap₂}
-use Rattle.std.proofs.Math.ListN.{drop}
+use Rattle.std.specs.Prelude.{ℕ, suc, ◌+◌, ◌*◌, ◌≤◌, ◌<◌, List, [], ◌∷◌, ◌++◌, ◌≡◌, refl, length, take, Ok, drop}
+use Rattle.std.proofs.Common.{suc-mul, mul-le-mul, mul-le-mul_right, add-one, arith, ◌∙◌, take-suc, take_all, sym, ap, ap₂}
 use Rattle.std.proofs.lemmas.Slice.{take-put_mid}
 use borrow.Rule.Slice.PartMut.{put_mid}
 use Rattle.scope.specs.Sheet.{Sheet, Line, H, line, line_bytes, text, body, end_line, sheet_lines, sheet_bytes, Valid}

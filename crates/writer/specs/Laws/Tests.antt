@@ -1,14 +1,10 @@
 -- The tests of the lines of a held sheet, one by one. What the lines before say counts only by how many there are of each kind, so that
 -- the tests of a line are known from its place. Assumes nothing.
-use Prim.Native.Nat.{ℕ, zero, suc, ◌+◌, ◌-◌, ◌≤◌, ◌<◌, min}
 use Rattle.std.proofs.Math.Decide.{dec_lt}
-use Rattle.std.proofs.Common.{zero-add, suc-add, sym, subst, ◌∙◌, drop-cons, ne_eqb}
-use native.Mathlib.Omega.{arith}
-use Rattle.std.specs.Prelude.{true, false, ◌≡◌, ltb, take, drop, Result}
+use Rattle.std.proofs.Common.{zero-add, suc-add, sym, subst, ◌∙◌, drop-cons, ne_eqb, arith, ap}
+use Rattle.std.specs.Prelude.{true, false, ◌≡◌, ltb, take, drop, Result, ℕ, zero, suc, ◌+◌, ◌-◌, ◌≤◌, ◌<◌, min, List, [], ◌∷◌, refl, length, get_or}
 use Rattle.std.proofs.Math.Bool.{and-true}
-use mathlib.Core.List.{List, [], ◌∷◌}
-use Rattle.std.proofs.Math.Path.{refl, ap}
-use Rattle.std.proofs.Math.ListN.{length, get_or, get_or-append, get_or-eq_default}
+use Rattle.std.proofs.Math.ListN.{get_or-append, get_or-eq_default}
 use Rattle.scope.specs.Sheet.{Gate, not, and, or, Sheet, points, H, Line, line, filled, gate_line, end_line, body, most_gates, most_literals}
 use Rattle.scope.specs.Causes.{clause, tests, started, make}
 use Rattle.scope.specs.Words.{word, rule_at, held}

@@ -1,10 +1,9 @@
 -- Whether words stand for a gate that names points, or for a clause, by tests of the words. Assumes nothing.
-use Rattle.std.specs.Prelude.{ℕ, ◌/◌, ◌%◌, ◌<◌, Bool, cond, not, ◌&&◌, List, [], ◌∷◌, ◌≢◌, ◌≡◌, eqb, leb}
+use Rattle.std.specs.Prelude.{ℕ, ◌/◌, ◌%◌, ◌<◌, Bool, cond, not, ◌&&◌, List, [], ◌∷◌, ◌≢◌, ◌≡◌, eqb, leb, true, false, refl}
 use Prim.Native.Char.{code}
-use Rattle.std.proofs.Common.{arith, ◌∙◌}
-use Rattle.std.proofs.Math.Bool.{true, false, and-true, and-false, and_assoc}
-use Rattle.std.proofs.Math.Path.{refl, sym}
-use borrow.Author.Tests.{eqb-true, eqb-false, eq-eqb, ne_eqb}
+use Rattle.std.proofs.Common.{arith, ◌∙◌, sym, eqb-true, eq-eqb, ne_eqb}
+use Rattle.std.proofs.Math.Bool.{and-true, and-false, and_assoc}
+use borrow.Author.Tests.{eqb-false}
 use Rattle.scope.specs.Sheet.{plus, Gate}
 use Rattle.scope.specs.Causes.{is, point, literal, zeros, literals}
 use Rattle.scope.specs.Words.{word, no_gate, gate_of, gate_words, literal_from}

@@ -1,7 +1,6 @@
 -- The lines passed meet their tests, and the first that does not is told.
 use Rattle.std.proofs.Common.{◌≡◌, ◌+◌, arith, rules, refl, subst}
-use Rattle.std.specs.Prelude.{Result, Ok, Err}
-use Rattle.std.specs.Result.{MatchResult, IsErrAnd}
+use Rattle.std.specs.Prelude.{Result, Ok, Err, MatchResult, IsErrAnd}
 use Rattle.std.proofs.lemmas.Result.{err_from_is_err_and}
 use Rattle.writer.specs.Laws.Passed.{all_passed, fault_found, next_passed}
 use Rattle.writer.proofs.write.first_cause.Goals as goal
