@@ -1,5 +1,5 @@
--- A number that fits is its five columns, each from the digits up to it. No code fills them so any more. Assumes nothing.
-use Rattle.std.specs.Prelude.{ℕ, zero, suc, ◌-◌, ◌/◌, ◌%◌, ◌^◌, ◌≤◌, ◌<◌, Bool, true, false, cond, List, [], ◌∷◌, ◌++◌, ◌≢◌, ◌≡◌, refl, eqb, leb, ltb, length, replicate}
+-- A number that fits is its five columns, each from the digits up to it. Assumes nothing.
+use Rattle.std.specs.Prelude.{ℕ, zero, suc, ◌-◌, ◌/◌, ◌%◌, ◌^◌, ◌≤◌, ◌<◌, Bool, true, false, List, [], ◌∷◌, ◌++◌, ◌≢◌, ◌≡◌, refl, leb, ltb, length, replicate}
 use Prim.Native.Char.{code}
 use Rattle.std.proofs.Common.{pow-suc, arith, append_assoc, sym, ap, ◌∙◌, ne_eqb, leb-true, ltb-true}
 use Rattle.scope.specs.Sheet.{Number, number, digit, decimal, signed, justified, field, fits}
@@ -7,15 +7,7 @@ use Rattle.scope.proofs.Laws.Tests.{clash, both}
 use Rattle.scope.proofs.Laws.Lists.{length_snoc}
 use Rattle.scope.proofs.Laws.Fields.{by_digits}
 use Rattle.scope.proofs.Laws.Digits.{spaces_snoc, signed_snoc}
-
--- what stands directly before the first digit
-abbrev pub sign_of : Bool → ℕ
-sign_of true = code "-"
-sign_of false = code " "
-
--- the column of a digit, where n is what stands up to it, and `right` what stands up to the next one
-abbrev pub column : (n right sign : ℕ) → ℕ
-column n right s = cond (eqb n 0) (cond (eqb right 0) (code " ") s) (digit (n % 10))
+use Rattle.field.specs.Fields.{sign_of, column}
 
 -- w columns up to the one of n
 abbrev columns : ℕ → (n right sign : ℕ) → List ℕ

@@ -1,14 +1,13 @@
 // A field: a number right-justified with spaces in five columns. It is read column by column up to the first byte that fits
-// nothing, and printed as digits at the end of five spaces. Each direction promises what the scope says: what is read is what
-// `field_of` gives, or the column where it stops being the beginning of any; what is printed is what `field` has. The digits
-// are those of `itoa`, of the kit.
+// nothing, and printed from its last digit to its first. Each direction promises what the scope says: what is read is what
+// `field_of` gives, or the column where it stops being the beginning of any; what is printed is what `field` has.
 #![tactic(auto)]
 
 ghost use Rattle.std.specs.Prelude.{true, ◌≡◌, ◌%◌, length};
-ghost use Rattle.scope.specs.Sheet.{field_size, field, fits};
+ghost use Rattle.scope.specs.Sheet.{field_size, digit, field, fits};
 ghost use Rattle.field.specs.Columns.{with_digit, next, number_from, FieldRead};
-
-use itoa::write_digits;
+ghost use Rattle.field.specs.Fields as fields;
+ghost use Rattle.field.specs.Fields.{sign_of};
 
 pub const FIELD_SIZE: usize = 5;
 
@@ -132,15 +131,51 @@ pub fn field_at(columns: &[u8]) -> Result<Number, Malformed>
 
 // ---- printing
 
-// A number, right-justified with spaces.
+// The last digit of n.
+fn last_digit(n: u32) -> u8
+    ensures { result ≡ digit (n % 10) }
+{
+    ZERO + (n % 10) as u8
+}
+
+// What stands directly before the first digit.
+fn sign(minus: bool) -> u8
+    ensures { result ≡ sign_of minus }
+{
+    if minus { MINUS } else { SPACE }
+}
+
+// The column of a digit, where n is what stands up to it, and `right` what stands up to the next: the sign is put there if only that
+// one has a digit.
+fn column(n: u32, right: u32, sign: u8) -> u8
+    ensures { result ≡ fields.column n right sign }
+{
+    if n != 0 {
+        return last_digit(n);
+    }
+    if right != 0 {
+        return sign;
+    }
+    SPACE
+}
+
+// A number, right-justified with spaces. By hand, column by column: with the kit's `itoa`, which was tried, writing a full sheet misses its
+// bar.
+#[tactic(auto, using(crate::proofs::Printed::field_columns))]
 pub fn field_bytes(x: Number) -> [u8; FIELD_SIZE]
     requires { fits (number_from x) ≡ true }
     ensures { result ≡ field (number_from x) }
 {
-    let mut columns = [SPACE; FIELD_SIZE];
-    let start = write_digits(u64::from(x.size), &mut columns, FIELD_SIZE);
-    if x.minus {
-        columns[start - 1] = MINUS;
-    }
-    columns
+    let s = sign(x.minus);
+    let n0 = x.size;
+    let n1 = n0 / 10;
+    let n2 = n1 / 10;
+    let n3 = n2 / 10;
+    let n4 = n3 / 10;
+    let c4 = column(n4, n3, s);
+    let c3 = column(n3, n2, s);
+    let c2 = column(n2, n1, s);
+    let c1 = column(n1, 1, s);
+    let c0 = last_digit(n0);
+    [c4, c3, c2, c1, c0]
 }
