@@ -6,7 +6,7 @@
 ghost use Rattle.scope.specs.Texts.{TextRead};
 ghost use Rattle.scope.specs.Program.{listing_result, IsConverted};
 
-use planner::{Typed, MOST_SHEET, MOST_TEXT, print_sheet};
+use planner::{MOST_SHEET, MOST_TEXT, Typed, print_sheet};
 
 // One byte more than a text may have, so that a longer one is told.
 const INPUT: usize = MOST_TEXT + 1;

@@ -6,7 +6,7 @@
 ghost use Rattle.scope.specs.Texts.{TextRead};
 ghost use Rattle.scope.specs.Program.{listing_result, IsListing};
 
-use planner::{Typed, MOST_LISTING, MOST_TEXT, print_listing};
+use planner::{MOST_LISTING, MOST_TEXT, Typed, print_listing};
 
 // One byte more than a text may have, so that a longer one is told.
 const INPUT: usize = MOST_TEXT + 1;

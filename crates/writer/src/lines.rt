@@ -36,12 +36,7 @@ fn plain_line<const N: usize>(letter: Letter, x: u32, y: u32) -> Line<N>
     requires { 3 ≤ N }
     ensures { line_from result ≡ line (letter_from letter) (filled N (plus x ∷ plus y ∷ [])) }
 {
-    line_of(
-        letter,
-        Number::from(x),
-        Number::from(y),
-        Number::from(0),
-    )
+    line_of(letter, Number::from(x), Number::from(y), Number::from(0))
 }
 
 // An entry's words as its line: by functions, since a `From` may ask for nothing, and these types are of other crates.
