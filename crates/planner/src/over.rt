@@ -26,6 +26,9 @@ fn sheet_of<F: Form>(s: &[u8]) -> Result<Sheet, Cause>
     Ok(Sheet::new(words))
 }
 
+// A function a job, each of the same few words: one with a closure for the job would leave what is said of a list or of patterns to its
+// callers.
+
 // Answer: the list goes into `list`, and words after it keep their content.
 pub fn answer<F: Form>(s: &[u8], list: &mut [u32]) -> Outcome
     ensures { IsAnswer (F.Reading s.now) list.old (answer_from result list.new) }
@@ -85,8 +88,8 @@ pub fn print_sheet<F: Form>(s: &[u8], out: &mut [u8]) -> Option<usize>
 pub fn read<F: Form>(s: &[u8], tables: &mut Words) -> Result<(), Cause>
     ensures { IsRead (F.Reading s.now) tables.old (read_from result tables.new) }
 {
-    let mut words = [0; WORDS];
-    F::read(s, &mut words)?;
-    *tables = words;
+    let mut filled = [0; WORDS];
+    F::read(s, &mut filled)?;
+    *tables = filled;
     Ok(())
 }
