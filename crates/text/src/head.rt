@@ -27,25 +27,29 @@ pub fn head_at(s: &[u8]) -> Result<Head, Stuck>
     Ok(Head { at, points })
 }
 
-// As lines, with their faults: it tests, so it is no `From`.
-pub fn head_lines(h: Head) -> Lines
-    ensures { HeadLines h result }
-{
-    let first = first_of(
-        None,
-        require(h.points.switches <= MOST_SWITCHES, Refusal::Range),
-        1,
-    );
-    let fault = first_of(
-        first,
-        require(h.points.faults <= MOST_FAULTS, Refusal::Range),
-        2,
-    );
-    Lines {
-        at: h.at,
-        gates: 0,
-        rules: 0,
-        wishes: 0,
-        fault,
+// As lines, with their faults.
+impl From<Head> for Lines {
+    ghost use Rattle.text.specs.Lines.{HeadLines};
+
+    ghost from_gives = { λ h lines. HeadLines h lines };
+
+    fn from(h: Head) -> Lines {
+        let first = first_of(
+            None,
+            require(h.points.switches <= MOST_SWITCHES, Refusal::Range),
+            1,
+        );
+        let fault = first_of(
+            first,
+            require(h.points.faults <= MOST_FAULTS, Refusal::Range),
+            2,
+        );
+        Lines {
+            at: h.at,
+            gates: 0,
+            rules: 0,
+            wishes: 0,
+            fault,
+        }
     }
 }

@@ -7,7 +7,7 @@ ghost use Rattle.scope.specs.Words.{words_of};
 ghost use Rattle.words.specs.Told.{Fills};
 ghost use Rattle.text.specs.Texts.{LinesTold};
 
-use crate::head::{head_at, head_lines};
+use crate::head::head_at;
 use crate::lines::Lines;
 use crate::rule::rule_lines;
 use crate::wish::wish_lines;
@@ -26,7 +26,7 @@ fn lines_of(s: &[u8], words: &mut Words) -> Result<Lines, Stuck>
 {
     let h = head_at(s)?;
     put_head(words, h.points.switches, h.points.faults);
-    let rules = rule_lines(s, head_lines(h), h.points, words)?;
+    let rules = rule_lines(s, Lines::from(h), h.points, words)?;
     let l = wish_lines(s, rules, h.points, words)?;
     // no byte may be left after the last line
     if l.at < s.len() {
@@ -36,7 +36,7 @@ fn lines_of(s: &[u8], words: &mut Words) -> Result<Lines, Stuck>
 }
 
 // The words of the sheet that a text stands for, or the first cause to turn it down: the place where no legal text goes on, counted from 1, or the
-// first line at fault.
+// first line at fault. The words are lent, as those of `sheet` are.
 pub fn read(s: &[u8], words: &mut Words) -> Result<(), Cause>
     ensures { Fills (TextRead s.now) result words.new }
 {

@@ -3,7 +3,7 @@ use Rattle.text.specs.Laws.Texts.{rules_begin, wishes_begin, text_goes_on, text_
 use Rattle.text.proofs.whole.lines_of.Goals as goal
 
 pub rule_lines-requires : goal.rule_lines-requires
-rule_lines-requires c = rules_begin c.in_ok-h.h c.requires.0 c.in_ok-h.ensures c.head_lines.ensures c.requires.1 c.put_head.ensures
+rule_lines-requires c = rules_begin c.in_ok-h.h c.requires.0 c.in_ok-h.ensures c.from.ensures c.requires.1 c.put_head.ensures
 
 pub wish_lines-requires : goal.wish_lines-requires
 wish_lines-requires c = wishes_begin c.in_ok-rules.ensures.0 c.in_ok-rules.ensures.1

@@ -1,7 +1,7 @@
 -- The faults of the two lines go through `first_of` one after the other, from none.
 use Rattle.std.proofs.Common.{refl}
 use Rattle.text.specs.Laws.Lines.{head_fault}
-use Rattle.text.proofs.head.head_lines.Goals as goal
+use Rattle.text.proofs.head.LinesFromHead.from.Goals as goal
 
 pub returns : goal.returns
 returns c = record {
