@@ -11,6 +11,8 @@ use planner::{MOST_SHEET, MOST_TEXT, Typed, print_sheet};
 // One byte more than a text may have, so that a longer one is told.
 const INPUT: usize = MOST_TEXT + 1;
 
+// The buffer is as long as the longest sheet, so that there always is one. The programs are this line each, of the form and the output
+// that they name: no plainer as one function with a name for either.
 fn print(text: &[u8], out: &mut [u8]) -> usize
     ensures { IsConverted (TextRead text.now) out.old (listing_result result out.new) }
 {

@@ -48,7 +48,7 @@ fn head(outcome: Outcome) -> Head
 }
 
 // What is told has to be a source. A struct around it with that fact would lose it at the match, where the sheet or the cause is handed
-// on.
+// on. (A sheet's counts tell too that it is valid; nothing here asks for them.)
 
 // Puts the listing of Answer's outcome at the beginning of `out`, and returns its length.
 fn put_answer(sheet: &Sheet, out: &mut [u8]) -> usize

@@ -12,6 +12,8 @@ use planner::{Fixed, MOST_LISTING, MOST_SHEET, print_listing};
 // One byte more than a sheet may have, so that a longer one is told.
 const INPUT: usize = MOST_SHEET + 1;
 
+// The buffer is as long as the longest listing, so that there always is one. The programs are this line each, of the form and the output
+// that they name: no plainer as one function with a name for either.
 fn print(sheet: &[u8], out: &mut [u8]) -> usize
     ensures { IsListing (SheetRead field_count sheet.now) out.old (listing_result result out.new) }
 {

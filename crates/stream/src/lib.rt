@@ -62,7 +62,7 @@ pub fn transform<R: Read, W: Write, F: Fn(&[u8], &mut [u8]) -> usize>(
     output.write_all(&out[..m]).map_err(|_| Failure::Unwritten)
 }
 
-// A program: this from standard input to standard output. A line for people tells of a failure; that it cannot be written
+// A program: this from standard input to standard output, of a host that a program alone is handed. A line for people tells of a failure; that it cannot be written
 // is nothing that anybody could be told.
 pub fn run<F: Fn(&[u8], &mut [u8]) -> usize>(
     rt: &HostRuntime,

@@ -18,6 +18,8 @@ use words::literal::Literal;
 use words::rule::rule_at;
 use words::wish::{Wish, wish_at};
 
+// That N is 3 or more is asked by each of these: as functions of `Lines` they would be lent words that they do not look at.
+
 // The line of these numbers, and zeros behind them. They are put one by one: copied as a part of an array they pass through memory, and
 // writing a full sheet misses its bar.
 fn line_of<const N: usize>(letter: Letter, x: Number, y: Number, z: Number) -> Line<N>
