@@ -1,14 +1,16 @@
 -- Entries as the code holds them, and what one more of them makes of the words of a sheet: in no promise of an exported call. Assumes nothing.
-use Rattle.std.specs.Prelude.{ℕ, ◌≤◌, List, ◌≡◌, length}
+use Rattle.std.specs.Prelude.{ℕ, ◌≤◌, cond, List, [], ◌∷◌, ◌++◌, ◌≡◌, ◌≢◌, eqb, length, Option, Some, None, Result, Ok, Err}
 use Rattle.scope.specs.Sheet.{Sheet, sheet, number, Clause, most_gates, most_rules, most_wishes}
 use Rattle.scope.specs.Sheet as scope
 use Rattle.scope.specs.Causes.{add_gate, add_rule, add_wish}
-use Rattle.scope.specs.Words.{gate_size, wish_size, gates_from, wishes_from, word, gate_of, clause_of, wish_words, words_of}
+use Rattle.scope.specs.Words.{gate_size, wish_size, gates_from, wishes_from, word, gate_words, gate_of, literal_from, clause_of, wish_words, words_of}
 use Rattle.words.specs.Tables.{entry_at}
 use Rattle.words.specs.declared.counts.Counts.{Counts}
 use Rattle.words.specs.declared.gate.Gate.{Gate}
 use Rattle.words.specs.declared.gate.Gate.TheVariants.{Not, And, Or}
 use Rattle.words.specs.declared.literal.Literal.{Literal}
+use Rattle.words.specs.declared.refusal.Refusal.{Refusal}
+use Rattle.words.specs.declared.refusal.Refusal.TheVariants.{Fields}
 
 -- ---- what the code's values stand for
 
@@ -20,12 +22,30 @@ gate_from (Or p q) = scope.or p q
 abbrev pub literal_of : Literal → scope.Number
 literal_of l = number l.minus l.switch
 
+-- the literals that there are
+abbrev pub literals_there : Option Literal → Clause
+literals_there None = []
+literals_there (Some l) = literal_of l ∷ []
+
+unfoldable pub clause_there : List (Option Literal) → Clause
+clause_there [] = []
+clause_there (x ∷ w) = literals_there x ++ clause_there w
+
+-- the literals of a code: 0 is none
+unfoldable pub literals_of : ℕ → Clause
+literals_of c = cond (eqb c 0) [] (literal_from c ∷ [])
+
 -- a gate and a wish by their three words
 abbrev pub gate_of_words : List ℕ → scope.Gate
 gate_of_words g = gate_of (word g 0) (word g 1) (word g 2)
 
 abbrev pub clause_from : List ℕ → Clause
 clause_from w = clause_of (word w 0) (word w 1) (word w 2)
+
+-- the words are those of the gate, or of none
+abbrev pub GateRead : List ℕ → Result Gate Refusal → Type 0
+GateRead w (Ok g) = gate_words (gate_from g) ≡ w
+GateRead w (Err r) = (r ≡ Fields) × ((g : scope.Gate) → gate_words g ≢ w)
 
 -- ---- entries of words
 

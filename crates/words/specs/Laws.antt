@@ -5,3 +5,5 @@ pub mod Sheets
 pub mod Tests
 pub mod Told
 pub mod Held
+pub mod Literals
+pub mod Results

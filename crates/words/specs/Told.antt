@@ -6,7 +6,6 @@ use Rattle.scope.specs.Words.{held, words_of}
 use Rattle.words.specs.declared.refusal.Cause.{Cause}
 use Rattle.words.specs.Refusals.{number_of}
 
--- the sheet, or the cause to turn it down
 -- the valid sheet, or the cause to turn it down
 abbrev pub told : Result Sheet Cause → Read
 told (Ok t) = accepted t

@@ -1,5 +1,5 @@
 // The counts of a sheet, its first words.
-ghost use Rattle.std.specs.Prelude.{◌≡◌};
+ghost use Rattle.std.specs.Prelude.{◌≡◌, ◌+◌};
 ghost use Rattle.words.specs.Entries.{counts_at, HeadPut};
 
 use crate::Words;
@@ -25,6 +25,15 @@ pub struct Counts {
     pub gates: u32,
     pub rules: u32,
     pub wishes: u32,
+}
+
+impl Counts {
+    // The points: switches, faults and gates. Each may be any word, and then the sum is too large for one.
+    pub fn points(self) -> usize
+        ensures { result ≡ self.switches + self.faults + self.gates }
+    {
+        self.switches as usize + self.faults as usize + self.gates as usize
+    }
 }
 
 pub fn counts_of(words: &Words) -> Counts

@@ -5,6 +5,7 @@
 // counts stand beside rooms, and a gate names others by their numbers.
 #![tactic(auto)]
 
+pub mod byte;
 pub mod counts;
 pub mod gate;
 pub mod limit;

@@ -43,7 +43,8 @@ impl From<Refusal> for u32 {
     }
 }
 
-// Why a sheet, a text, tables or a job are turned down, and where.
+// Why a sheet, a text, tables or a job are turned down, and where. What the papers name no place or no column for has 0 there, as C
+// and the printed lines have it: an `Option` of either would be made 0 again wherever it is told.
 #[derive(Clone, Copy)]
 pub struct Cause {
     pub refusal: Refusal,
@@ -51,7 +52,7 @@ pub struct Cause {
     pub column: usize,
 }
 
-// A cause that has no column; that of a list or a plan has no line either.
+// A cause that has no column. Its place is a line, or the position of a byte or a pattern; that of a length, a list or a plan is 0.
 impl Cause {
     pub fn at(refusal: Refusal, place: usize) -> Cause
         ensures { result ≡ record { refusal = refusal; place = place; column = 0 } }

@@ -2,14 +2,27 @@
 ghost use Rattle.std.specs.Prelude.{[], ◌≡◌, ◌<◌, length, get_or};
 ghost use Rattle.scope.specs.Sheet.{Valid};
 ghost use Rattle.scope.specs.Words.{no_gate, held};
-ghost use Rattle.words.specs.Entries.{counts_from, gate_from, clause_from};
+ghost use Rattle.words.specs.Entries.{counts_from, gate_from, clause_there};
 
 use crate::Words;
 use crate::counts::{Counts, counts_of};
-use crate::gate::{AND, Gate, NOT, gate_words};
+use crate::gate::{Gate, gate_words};
+use crate::literal::Literal;
 use crate::rule::rule_at;
 use crate::wish::{Wish, wish_at};
 use std::marker::Model;
+
+// Gate i of words that hold a valid sheet, counted from 0. (Not of a `Sheet`, for the writer, who has lent words.)
+pub fn valid_gate(words: &Words, i: usize) -> Gate
+    requires valid { Valid (held words.now) }
+    requires listed { i < length (held words.now).gates }
+    ensures { gate_from result ≡ get_or (held words.now).gates i no_gate }
+{
+    let Ok(gate) = Gate::try_from(gate_words(words, i)) else {
+        unreachable!()
+    };
+    gate
+}
 
 // The words of a valid sheet. What stands beyond its counts is ignored.
 #[derive(Drop)]
@@ -55,12 +68,7 @@ impl Sheet {
         requires { i < length self.now.gates }
         ensures { gate_from result ≡ get_or self.now.gates i no_gate }
     {
-        let [kind, left, right] = gate_words(&self.words, i);
-        match kind {
-            NOT => Gate::Not(left),
-            AND => Gate::And(left, right),
-            _ => Gate::Or(left, right),
-        }
+        valid_gate(&self.words, i)
     }
 
     #[tactic(auto, using(crate::specs::Laws::Held::held_rules, crate::specs::Laws::Held::held_rule))]
@@ -71,11 +79,10 @@ impl Sheet {
         rule_at(&self.words, i)
     }
 
-    #[tactic(auto, using(crate::specs::Laws::Held::held_wishes, crate::specs::Laws::Held::held_wish))]
     pub fn wish(&self, i: usize) -> Wish
         requires { i < length self.now.wishes }
-        ensures { clause_from result ≡ get_or self.now.wishes i [] }
+        ensures { clause_there result ≡ get_or self.now.wishes i [] }
     {
-        wish_at(&self.words, i)
+        wish_at(&self.words, i).map(Literal::in_code)
     }
 }

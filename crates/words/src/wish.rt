@@ -6,13 +6,17 @@ ghost use Rattle.words.specs.Entries.{wish_words_at, WishPut};
 use crate::Words;
 use crate::counts::WISHES;
 use crate::limit::{MOST_LITERALS, MOST_RULES, MOST_WISHES};
+use crate::literal::Literal;
 use crate::rule::FIRST_RULE;
 use crate::table::{Table, entry, push};
 
-// A wish: the codes of its literals, and then zeros, as the tables of the calls for C have it.
+// A wish, by its literals.
+pub type Wish = [Option<Literal>; MOST_LITERALS];
+
+// Its words: the codes of its literals, and then zeros, as the tables of the calls for C have them.
 pub const WISH_SIZE: usize = MOST_LITERALS;
 
-pub type Wish = [u32; WISH_SIZE];
+pub type Codes = [u32; WISH_SIZE];
 
 // where the wishes begin
 pub const FIRST_WISH: usize = FIRST_RULE + MOST_RULES as usize;
@@ -23,8 +27,8 @@ const TABLE: Table<WISH_SIZE> = Table {
     most: MOST_WISHES,
 };
 
-// Wish i, counted from 0.
-pub fn wish_at(words: &Words, i: usize) -> Wish
+// The words of wish i, counted from 0.
+pub fn wish_at(words: &Words, i: usize) -> Codes
     requires { i < most_wishes }
     ensures { result ≡ wish_words_at words.now i }
 {
@@ -33,8 +37,8 @@ pub fn wish_at(words: &Words, i: usize) -> Wish
 
 // One more wish, if there is room.
 #[tactic(auto, using(crate::specs::Laws::Puts::wish_put))]
-pub fn put_wish(words: &mut Words, wish: Wish)
-    ensures { WishPut wish words.old words.new }
+pub fn put_wish(words: &mut Words, codes: Codes)
+    ensures { WishPut codes words.old words.new }
 {
-    push(TABLE, words, wish);
+    push(TABLE, words, codes);
 }

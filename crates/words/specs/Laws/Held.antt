@@ -1,18 +1,18 @@
 -- Each entry of the sheet that words hold, by its words; of a valid one the words are again those of the entry. Assumes nothing.
-use Rattle.std.specs.Prelude.{ℕ, ◌+◌, ◌*◌, ◌<◌, List, [], ◌∷◌, ◌≢◌, ◌≡◌, length, get_or}
-use Rattle.std.proofs.Common.{arith, sym, ap, ◌∙◌, get_or-take, get_or-drop}
+use Rattle.std.specs.Prelude.{ℕ, Bool, true, false, eqb, refl, ◌+◌, ◌*◌, ◌<◌, List, [], ◌∷◌, ◌≢◌, ◌≡◌, length, get_or}
+use Rattle.std.proofs.Common.{arith, sym, ap, ◌∙◌, eqb-true, get_or-take, get_or-drop}
 use Prim.Native.Char.{code}
 use Rattle.scope.specs.Sheet.{Clause, Among, Valid, points}
 use Rattle.scope.specs.Sheet as scope
-use Rattle.scope.specs.Words.{gate_size, wish_size, gates_from, wishes_from, word, no_gate, gate_words, wish_words, gate_at, rule_at, wish_at, held, Used}
+use Rattle.scope.specs.Words.{gate_size, wish_size, gates_from, wishes_from, word, no_gate, gate_words, wish_words, gate_at, rule_at, wish_at, held, gate_of, Used}
 use Rattle.scope.proofs.Laws.Alls.{all_at}
 use Rattle.scope.proofs.Laws.Entries.{length_entries}
 use Rattle.scope.proofs.Laws.Entries as entries
-use Rattle.scope.proofs.Laws.Words.{gate_sized, wish_sized, gate_word, wish_word, words_kept}
+use Rattle.scope.proofs.Laws.Words.{gate_sized, wish_sized, gate_back, gate_word, wish_word, words_kept}
 use Rattle.words.specs.Tables.{entry_at}
 use Rattle.words.specs.Entries.{gate_of_words, clause_from, counts_at, gate_words_at, wish_words_at}
 
-three_words : (l : List ℕ) → length l ≡ 3 → {x y z : ℕ} → word l 0 ≡ x → word l 1 ≡ y → word l 2 ≡ z → l ≡ x ∷ y ∷ z ∷ []
+pub three_words : (l : List ℕ) → length l ≡ 3 → {x y z : ℕ} → word l 0 ≡ x → word l 1 ≡ y → word l 2 ≡ z → l ≡ x ∷ y ∷ z ∷ []
 three_words [] n p q r = absurd (omega arith)
 three_words (a ∷ []) n p q r = absurd (omega arith)
 three_words (a ∷ b ∷ []) n p q r = absurd (omega arith)
@@ -78,19 +78,22 @@ module _ (s : List ℕ) where
         let at : (j : ℕ) → j < wish_size → word (wish_words w) j ≡ word (wish_words_at s i) j = λ j b. sym (wish_word (held s) v i j (omega (arith, held_wishes)) b ∙ ap (λ x. word (wish_words x) j) (held_wish i h)) ∙ words_kept s v (Used.wish h b) ∙ sym (wish_word_at i j b) in
         three_words (wish_words w) (wish_sized w) (at 0 (omega arith)) (at 1 (omega arith)) (at 2 (omega arith))
 
--- ---- a gate by the kind of its words
-module _ {k p q : ℕ} where
-  pub kind_not : (g : scope.Gate) → gate_words g ≡ k ∷ p ∷ q ∷ [] → k ≡ code "N" → scope.not p ≡ g
-  kind_not (scope.Gate.not a) e h = ap scope.not (sym (ap (λ l. word l 1) e))
-  kind_not (scope.Gate.and a b) e h = let n : code "A" ≡ k = ap (λ l. word l 0) e in absurd (omega arith)
-  kind_not (scope.Gate.or a b) e h = let n : code "O" ≡ k = ap (λ l. word l 0) e in absurd (omega arith)
+-- ---- a gate and its words
 
-  pub kind_and : (g : scope.Gate) → gate_words g ≡ k ∷ p ∷ q ∷ [] → k ≡ code "A" → scope.and p q ≡ g
-  kind_and (scope.Gate.not a) e h = let n : code "N" ≡ k = ap (λ l. word l 0) e in absurd (omega arith)
-  kind_and (scope.Gate.and a b) e h = let l : a ≡ p = ap (λ l. word l 1) e in let r : b ≡ q = ap (λ l. word l 2) e in rw (l, r)
-  kind_and (scope.Gate.or a b) e h = let n : code "O" ≡ k = ap (λ l. word l 0) e in absurd (omega arith)
+pub gate_is : (g : scope.Gate) (w : List ℕ) → gate_words g ≡ w → g ≡ gate_of_words w
+gate_is g w e = sym (gate_back g) ∙ ap gate_of_words e
 
-  pub kind_or : (g : scope.Gate) → gate_words g ≡ k ∷ p ∷ q ∷ [] → k ≢ code "N" → k ≢ code "A" → scope.or p q ≡ g
-  kind_or (scope.Gate.not b) e n a = absurd (n (sym (ap (λ l. word l 0) e)))
-  kind_or (scope.Gate.and b c) e n a = absurd (a (sym (ap (λ l. word l 0) e)))
-  kind_or (scope.Gate.or b c) e n a = let l : b ≡ p = ap (λ l. word l 1) e in let r : c ≡ q = ap (λ l. word l 2) e in rw (l, r)
+-- words that are no gate's
+pub gate_none : (w : List ℕ) → length w ≡ gate_size → ((g : scope.Gate) → gate_words g ≢ w) → gate_of_words w ≡ no_gate
+unfolding gate_of
+gate_none w n h = go (eqb (word w 0) (code "N")) (eqb (word w 2) 0) (eqb (word w 0) (code "A")) (eqb (word w 0) (code "O")) refl refl refl refl
+  where
+    same : {k p q : ℕ} → word w 0 ≡ k → word w 1 ≡ p → word w 2 ≡ q → k ∷ p ∷ q ∷ [] ≡ w
+    same e f g = sym (three_words w n e f g)
+
+    go : (s t u v : Bool) → eqb (word w 0) (code "N") ≡ s → eqb (word w 2) 0 ≡ t → eqb (word w 0) (code "A") ≡ u → eqb (word w 0) (code "O") ≡ v → gate_of_words w ≡ no_gate
+    go true true u v d e f g = absurd (h (scope.not (word w 1)) (same (eqb-true _ _ d) refl (eqb-true _ _ e)))
+    go true false u v d e f g = rw (d, e)
+    go false t true v d e f g = absurd (h (scope.and (word w 1) (word w 2)) (same (eqb-true _ _ f) refl refl))
+    go false t false true d e f g = absurd (h (scope.or (word w 1) (word w 2)) (same (eqb-true _ _ g) refl refl))
+    go false t false false d e f g = rw (d, f, g)
