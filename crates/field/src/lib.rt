@@ -1,6 +1,7 @@
 // A field: a number right-justified with spaces in five columns. It is read column by column up to the first byte that fits
 // nothing, and printed from its last digit to its first. Each direction promises what the scope says: what is read is what
-// `field_of` gives, or the column where it stops being the beginning of any; what is printed is what `field` has.
+// `field_of` gives, or the column where it stops being the beginning of any; what is printed is what `field` has. The crate rests on
+// `words` for the literals that numbers may be, and for bytes.
 #![tactic(auto)]
 
 ghost use Rattle.std.specs.Prelude.{true, ◌≡◌, ◌%◌, length};
@@ -9,14 +10,12 @@ ghost use Rattle.field.specs.Columns.{with_digit, next, number_from, FieldRead};
 ghost use Rattle.field.specs.Fields as fields;
 ghost use Rattle.field.specs.Fields.{sign_of};
 
+use words::byte::{SPACE, ZERO};
+use words::literal::Literal;
+
 pub const FIELD_SIZE: usize = 5;
 
-// `scanner` names some of these too: the two have no crate below them, and one for three bytes would be no plainer.
-const SPACE: u8 = b' ';
-
 const MINUS: u8 = b'-';
-
-const ZERO: u8 = b'0';
 
 // A number below this has room for one more digit.
 const ROOM: u32 = 10000;
@@ -39,6 +38,37 @@ impl From<u32> for Number {
 
     fn from(size: u32) -> Number {
         Number { minus: false, size }
+    }
+}
+
+// A literal as a number: its switch is the size. They are two types, since one would call a switch a size where there are no fields.
+impl From<Literal> for Number {
+    ghost use Rattle.std.specs.Prelude.{◌≡◌};
+    ghost use Rattle.words.specs.Entries.{literal_of};
+    ghost use Rattle.field.specs.Columns.{number_from};
+
+    ghost from_gives = { λ l x. number_from x ≡ literal_of l };
+
+    fn from(literal: Literal) -> Number {
+        Number {
+            minus: literal.minus,
+            size: literal.switch,
+        }
+    }
+}
+
+impl From<Number> for Literal {
+    ghost use Rattle.std.specs.Prelude.{◌≡◌};
+    ghost use Rattle.words.specs.Entries.{literal_of};
+    ghost use Rattle.field.specs.Columns.{number_from};
+
+    ghost from_gives = { λ x l. literal_of l ≡ number_from x };
+
+    fn from(x: Number) -> Literal {
+        Literal {
+            minus: x.minus,
+            switch: x.size,
+        }
     }
 }
 
@@ -84,6 +114,7 @@ fn after_spaces(b: u8, left: usize) -> Option<Scan>
     }
 }
 
+// (`left` stands in the promise alone.)
 fn after_minus(b: u8, left: usize) -> Option<Scan>
     ensures { result ≡ next Scan.Minus b left }
 {
@@ -99,7 +130,7 @@ fn after_minus(b: u8, left: usize) -> Option<Scan>
     }
 }
 
-// One more byte, with `left` columns after it; None if no number begins so. A state has rules of its own: closures would be these arms.
+// One more byte, with `left` columns after it; None if no number begins so. (By a match: each state has rules of its own.)
 fn after(scan: Scan, b: u8, left: usize) -> Option<Scan>
     ensures { result ≡ next scan b left }
 {

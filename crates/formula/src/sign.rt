@@ -4,8 +4,9 @@ ghost use Rattle.scanner.specs.Look as place;
 ghost use Rattle.formula.specs.Formulas.{sign_at, operand_at, ended_of, closed_of, fed_of};
 
 use crate::parsed::Parsed;
-use scanner::reader::{FEED, next_is, skip};
+use scanner::reader::{next_is, skip};
 use scanner::token::Stuck;
+use words::byte::FEED;
 
 const CLOSE: u8 = b')';
 

@@ -1,13 +1,8 @@
-// The letters of lines.
+// The letters of lines; a listing has its own (`listing::row`).
 use field::Malformed;
+use words::byte::{AND, NOT, OR};
 
 const HEAD: u8 = b'H';
-
-const NOT: u8 = b'N';
-
-const AND: u8 = b'A';
-
-const OR: u8 = b'O';
 
 const RULE: u8 = b'R';
 
@@ -17,13 +12,13 @@ const END: u8 = b'Z';
 
 #[derive(Clone, Copy, PartialEq, Eq)]
 pub enum Letter {
-    Head,
-    Not,
-    And,
-    Or,
-    Rule,
-    Wish,
-    End,
+    Head = HEAD as isize,
+    Not = NOT as isize,
+    And = AND as isize,
+    Or = OR as isize,
+    Rule = RULE as isize,
+    Wish = WISH as isize,
+    End = END as isize,
 }
 
 impl From<Letter> for u8 {
@@ -34,19 +29,11 @@ impl From<Letter> for u8 {
     ghost from_gives = { λ l b. b ≡ letter_byte (letter_from l) };
 
     fn from(letter: Letter) -> u8 {
-        match letter {
-            Letter::Head => HEAD,
-            Letter::Not => NOT,
-            Letter::And => AND,
-            Letter::Or => OR,
-            Letter::Rule => RULE,
-            Letter::Wish => WISH,
-            Letter::End => END,
-        }
+        letter as u8
     }
 }
 
-// The letter of a byte; a line that begins with no letter's stops there.
+// The letter of a byte. A line that begins with any other byte stops in column 1.
 impl TryFrom<u8> for Letter {
     ghost use Rattle.line.specs.Lines.{LetterRead};
 

@@ -8,7 +8,8 @@ use field::{FIELD_SIZE, Number};
 // the fields of a line as sheets have it now
 pub const FIELD_COUNT: usize = 3;
 
-pub const LINE_FEED: u8 = b'\n';
+// the bytes of such a line: a constant's value calls no function
+pub const LINE_SIZE: usize = 1 + FIELD_COUNT * FIELD_SIZE + 1;
 
 // A line of N fields.
 #[derive(Clone, Copy)]
@@ -17,7 +18,7 @@ pub struct Line<const N: usize> {
     pub numbers: [Number; N],
 }
 
-// The bytes of a line of n fields. A constant can call no function, so that `listing` writes the size of its rows out again.
+// The bytes of a line of n fields. (Of how many there may be, promises tell in numbers: a type for 3 or 4 would have no field.)
 pub fn line_size(n: usize) -> usize
     requires { n ≤ 4 }
     ensures { result ≡ line_size n }

@@ -5,8 +5,8 @@ ghost use Rattle.scope.specs.Causes.{line_size};
 ghost use Rattle.scope.specs.Reading.{Fit};
 ghost use Rattle.line.specs.Lines.{numbers_from, fields_front};
 
-use crate::line::LINE_FEED;
 use field::{FIELD_SIZE, Number, field_bytes};
+use words::byte::FEED;
 
 // Puts the columns of a number, one by one: copied as a whole they pass through memory, and writing a full sheet misses its bar.
 fn put_columns(out: &mut [u8], columns: [u8; FIELD_SIZE])
@@ -18,7 +18,7 @@ fn put_columns(out: &mut [u8], columns: [u8; FIELD_SIZE])
     }
 }
 
-// Puts numbers one after another into their columns.
+// Puts numbers one after another into their columns: by places, as nothing is known of what a loop over `chunks_exact_mut` leaves.
 fn put_fields(out: &mut [u8], numbers: &[Number])
     requires fit { Fit (numbers_from numbers.now) }
     requires whole { length out.old ≡ length numbers.now * field_size }
@@ -30,7 +30,7 @@ fn put_fields(out: &mut [u8], numbers: &[Number])
     }
 }
 
-// Puts a line into its bytes. The letter is a byte, and no `Line` is taken, since the rows of listings have letters of their own.
+// Puts a line into its bytes; no `Display`, as a buffer is lent. The letter is a byte, and no `Line` is taken, since the rows of listings have letters of their own.
 pub fn put_line(out: &mut [u8], letter: u8, numbers: &[Number])
     requires fit { Fit (numbers_from numbers.now) }
     requires whole { length out.old ≡ line_size (length numbers.now) }
@@ -39,5 +39,5 @@ pub fn put_line(out: &mut [u8], letter: u8, numbers: &[Number])
     let end = out.len() - 1;
     out[0] = letter;
     put_fields(&mut out[1..end], numbers);
-    out[end] = LINE_FEED;
+    out[end] = FEED;
 }

@@ -5,8 +5,9 @@ ghost use Rattle.scope.specs.Causes.{line_size};
 ghost use Rattle.line.specs.Lines.{FieldsRead, LineRead};
 
 use crate::letter::Letter;
-use crate::line::{LINE_FEED, Line};
+use crate::line::Line;
 use field::{FIELD_SIZE, Malformed, Number, field_at};
+use words::byte::FEED;
 
 // The N fields and the line feed, up to the first byte that fits nothing.
 fn fields_at<const N: usize>(bytes: &[u8]) -> Result<[Number; N], Malformed>
@@ -16,17 +17,12 @@ fn fields_at<const N: usize>(bytes: &[u8]) -> Result<[Number; N], Malformed>
     let mut numbers = [Number::from(0); N];
     for (i, number) in numbers.iter_mut().enumerate() {
         let at = i * FIELD_SIZE;
-        *number = match field_at(&bytes[at..at + FIELD_SIZE]) {
-            Ok(x) => x,
-            Err(stop) => {
-                return Err(Malformed {
-                    column: at + stop.column,
-                });
-            }
-        };
+        *number = field_at(&bytes[at..at + FIELD_SIZE]).map_err(|stop| Malformed {
+            column: at + stop.column,
+        })?;
     }
     let end = N * FIELD_SIZE;
-    if bytes[end] != LINE_FEED {
+    if bytes[end] != FEED {
         return Err(Malformed { column: end + 1 });
     }
     Ok(numbers)
@@ -40,10 +36,8 @@ pub fn line_at<const N: usize>(bytes: &[u8]) -> Result<Line<N>, Malformed>
     let fields = fields_at(&bytes[1..]);
     // after the fields, so that the machine code decides on the letter once
     let letter = Letter::try_from(bytes[0])?;
-    match fields {
-        Ok(numbers) => Ok(Line { letter, numbers }),
-        Err(stop) => Err(Malformed {
-            column: stop.column + 1,
-        }),
-    }
+    let numbers = fields.map_err(|stop| Malformed {
+        column: stop.column + 1,
+    })?;
+    Ok(Line { letter, numbers })
 }

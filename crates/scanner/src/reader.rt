@@ -4,6 +4,8 @@
 ghost use Rattle.std.specs.Prelude.{[], ◌∷◌, ◌≡◌, ◌+◌, ◌<◌, ◌^◌, eqb};
 ghost use Rattle.scanner.specs.Look as specs;
 
+use words::byte::SPACE;
+
 // It holds the lent text and a position.
 #[derive(Clone, Copy)]
 pub struct Reader<'a> {
@@ -11,12 +13,8 @@ pub struct Reader<'a> {
     pub at: usize,
 }
 
-// bytes that formulas and wishes are asked for too (the other form's `field` and `line` name theirs, as no crate is below both)
-pub const SPACE: u8 = b' ';
-
+// before what is turned round, in formulas and in wishes
 pub const BANG: u8 = b'!';
-
-pub const FEED: u8 = b'\n';
 
 // What stands at a place of a text.
 fn byte_at(text: &[u8], at: usize) -> Option<u8>
@@ -32,7 +30,8 @@ pub fn next_is(text: &[u8], at: usize, b: u8) -> bool
     byte_at(text, at) == Some(b)
 }
 
-// How many bytes of a word stand from there on; the place past them is a number.
+// How many bytes of a word stand from there on; the place past them is a number. (By
+// `position`, its closure would not know that `at + i` fits, which follows from the bytes before having stood there.)
 fn same_bytes(text: &[u8], at: usize, word: &[u8]) -> usize
     ensures value { result ≡ specs.standing text.now at word.now }
     ensures fits { at + result < 2 ^ 64 }

@@ -4,8 +4,7 @@ ghost use Rattle.scanner.specs.Tokens.{WordRead, NumberRead, NamedRead};
 ghost use Rattle.scanner.specs.Look as specs;
 
 use crate::reader::{look, past_word};
-
-const ZERO: u8 = b'0';
+use words::byte::ZERO;
 
 // The place where no legal text goes on.
 #[derive(Clone, Copy)]
@@ -30,7 +29,7 @@ pub fn word_at(s: &[u8], at: usize, word: &[u8]) -> Result<usize, Stuck>
     Ok(end)
 }
 
-// The digit that stands there, if one does.
+// The digit that stands there, if one does. (By `then`, the closure would not know that it is one.)
 fn digit_at(s: &[u8], at: usize) -> Option<u32>
     ensures { result ≡ specs.digit s.now at }
 {

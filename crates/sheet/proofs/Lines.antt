@@ -45,6 +45,7 @@ module _ (t : Sheet) (k : ℕ) (last : Bool) (z : k ≡ 0 → (t.gates ≡ []) �
   suits-as W xs (_, (_, (e, _))) = record { switches = t.switches; few = b.switches; right = (both (literals t.switches (take most_literals xs)) (zeros (drop most_literals xs)) e).0 }
   suits-as Z xs m = tt
 
+-- (`passed` is of a turn, and the scope has one of the same name of the cause's line.)
 -- ---- the lines before line k pass, and the words are those of what they say
 
 pub record Reached (n : ℕ) (s : List ℕ) (k : ℕ) (u : List ℕ) : Type 0 where

@@ -16,15 +16,12 @@ use field::Number;
 use line::{FIELD_COUNT, Letter, Line, line_at, line_size};
 use words::counts::{counts_of, put_head};
 use words::gate::{Gate, put_gate};
-use words::limit::{MOST_GATES, MOST_RULES, MOST_WISHES};
+use words::limit::MOST_LINES;
 use words::literal::Literal;
 use words::refusal::{Cause, Refusal};
 use words::rule::put_rule;
-use words::wish::{Wish, put_wish};
+use words::wish::{Codes, put_wish};
 use words::{WORDS, Words};
-
-// H, Z and as many others as there may be
-const MOST_LINES: usize = (MOST_GATES + MOST_RULES + MOST_WISHES) as usize + 2;
 
 // In promises `3 ≤ N` and `N ≤ 4` say which forms there may be. A type with these facts would have no field, and be handed through the
 // same functions.
@@ -35,15 +32,11 @@ fn code(x: Number) -> u32
     requires { x.size ≤ 99 }
     ensures { result ≡ literal_code (number_from x) }
 {
-    let literal = Literal {
-        minus: x.minus,
-        switch: x.size,
-    };
-    literal.code()
+    Literal::from(x).code()
 }
 
-// The wish that the first fields say.
-fn wish_of(numbers: &[Number]) -> Wish
+// The codes of the wish that the first fields say, one by one: of each it is shown that it has a code.
+fn codes_of(numbers: &[Number]) -> Codes
     requires wide { 3 ≤ length numbers.now }
     requires literals { AreLiterals (take most_literals (numbers_from numbers.now)) }
     ensures { result ≡ wish_words (clause (take most_literals (numbers_from numbers.now))) }
@@ -51,7 +44,7 @@ fn wish_of(numbers: &[Number]) -> Wish
     [code(numbers[0]), code(numbers[1]), code(numbers[2])]
 }
 
-// A letter has an entry of its own: closures would be these arms.
+// By a match: each letter has an entry of its own.
 fn take_line<const N: usize>(words: &mut Words, line: &Line<N>)
     requires wide { 3 ≤ N }
     requires suited { Suited (line_from line.now) }
@@ -65,7 +58,7 @@ fn take_line<const N: usize>(words: &mut Words, line: &Line<N>)
         Letter::And => put_gate(words, Gate::And(x, y)),
         Letter::Or => put_gate(words, Gate::Or(x, y)),
         Letter::Rule => put_rule(words, x),
-        Letter::Wish => put_wish(words, wish_of(&line.numbers)),
+        Letter::Wish => put_wish(words, codes_of(&line.numbers)),
         Letter::End => {}
     }
 }

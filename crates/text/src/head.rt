@@ -7,7 +7,8 @@ use scanner::token::{Stuck, named_at, word_at};
 use words::limit::{MOST_FAULTS, MOST_SWITCHES};
 use words::refusal::{Refusal, require};
 
-// The place after them, and what they say.
+// The place after them, and what they say. (A `Token` but for the name of what was read, which says more than `value`; of a literal and
+// the place after it `wish` makes a pair.)
 #[derive(Clone, Copy)]
 pub struct Head {
     pub at: usize,

@@ -9,7 +9,7 @@ use words::refusal::{Refusal, require};
 // the two lines before the first rule
 const HEAD_LINES: usize = 2;
 
-// The first fault, and its line.
+// The first fault, and its line. (A `Cause` has a column too, of which each promise would have to say that it is 0.)
 #[derive(Clone, Copy)]
 pub struct Fault {
     pub refusal: Refusal,

@@ -35,8 +35,8 @@ fn lines_of(s: &[u8], words: &mut Words) -> Result<Lines, Stuck>
     Ok(l)
 }
 
-// The words of the sheet that a text stands for, or the first cause to turn it down: the place where no legal text goes on, counted from 1, or the
-// first line at fault. The words are lent, as those of `sheet` are.
+// The words of the sheet that a text stands for, or the first cause to turn it down: the place where no legal text goes on, counted
+// from 1, or the first line at fault. The words are lent, as those of `sheet` are.
 pub fn read(s: &[u8], words: &mut Words) -> Result<(), Cause>
     ensures { Fills (TextRead s.now) result words.new }
 {

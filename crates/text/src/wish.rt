@@ -8,12 +8,13 @@ ghost use Rattle.text.specs.Wishes.{WithLiteral, one_literal, LiteralRead, OneMo
 
 use crate::lines::Lines;
 use formula::points::Points;
-use scanner::reader::{BANG, FEED, SPACE, next_is, past_byte};
+use scanner::reader::{BANG, next_is, past_byte};
 use scanner::token::{Stuck, named_at, word_at};
 use words::Words;
+use words::byte::{FEED, SPACE};
 use words::limit::{MOST_LITERALS, MOST_WISHES};
 use words::literal::Literal;
-use words::wish::{WISH_SIZE, Wish, put_wish};
+use words::wish::{Codes, WISH_SIZE, put_wish};
 
 const WISH: u8 = b'w';
 
@@ -23,7 +24,7 @@ const WISH: u8 = b'w';
 pub struct Literals {
     pub at: usize,
     pub count: usize,
-    pub codes: Wish,
+    pub codes: Codes,
     pub known: bool,
 }
 

@@ -1,4 +1,5 @@
 -- How a walk goes on over words and numbers. Assumes nothing.
+-- A theorem that was given stays, though nothing cites it: `named_good`.
 use Rattle.std.proofs.Common.{ℕ, suc, ◌+◌, ◌-◌, ◌*◌, ◌≤◌, ◌<◌, arith, IsErrAnd, Some, None, Result, Ok, Err, Bool, true, false, cond, List, [], ◌∷◌, ◌≢◌, ◌≡◌, eqb, drop, refl, ap, ◌∙◌, ne_eqb, length, length-drop, drop-drop}
 use Prim.Native.Char.{code}
 use Rattle.std.proofs.Math.Option.{none, some}

@@ -1,4 +1,5 @@
 -- How much of a word stands from a place of a text on, and how a walk goes on from a place. Assumes nothing.
+-- A theorem that was given stays, though nothing cites it: `past_fits`.
 use Rattle.std.proofs.Common.{ℕ, suc, ◌+◌, ◌-◌, ◌≤◌, ◌<◌, Option, Some, None, Bool, ◌≢◌, ◌≡◌, get_or, drop, add-one, arith, true, false, cond, List, [], ◌∷◌, refl, sym, ap, ◌∙◌, length-drop, drop_of_length-le, drop-cons, length, eqb, lt-ltb, le-ltb, eq-eqb, ne_eqb, eqb-true, ltb-true, ltb-false, Bor}
 use Rattle.std.proofs.lemmas.Bool.{eqb-false}
 use Rattle.std.proofs.Math.Decide.{dec_le}

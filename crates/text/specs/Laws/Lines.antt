@@ -1,4 +1,5 @@
 -- What the steps over the head and the rule lines give is put together. Assumes nothing.
+-- A theorem that was given stays, though nothing cites it: `rule_asked`.
 use Rattle.std.proofs.Common.{ℕ, suc, ◌+◌, ◌-◌, ◌≤◌, ◌<◌, arith, Bool, Option, None, Some, Result, Ok, Err, cond, ◌&&◌, ◌≢◌, ◌≡◌, true, false, List, [], ◌∷◌, ◌++◌, append_assoc, append-nil, refl, sym, ap, ap₂, subst, ◌∙◌, eqb, leb, ltb, length, length-append, eqb-true}
 use Rattle.std.proofs.lemmas.Bool.{eqb-false}
 use Prim.Native.Char.{code}

@@ -1,18 +1,21 @@
 -- What the head, the rules and the wishes of a text say is what is read from it. Assumes nothing.
-use Rattle.std.proofs.Common.{ℕ, ◌+◌, ◌-◌, ◌≤◌, ◌<◌, None, Some, List, [], ◌≢◌, ◌≡◌, refl, length, add-one, arith, ◌∙◌, drop_of_length-le, le-leb, ne_eqb}
+use Rattle.std.proofs.Common.{ℕ, ◌+◌, ◌-◌, ◌≤◌, ◌<◌, None, Some, Err, List, [], ◌≢◌, ◌≡◌, refl, length, add-one, arith, ◌∙◌, drop_of_length-le, le-leb, ne_eqb}
 use Rattle.scope.specs.Sheet.{Valid}
 use Rattle.scope.specs.Causes.{accepted, refused, started}
 use Rattle.scope.specs.Source.{Form}
 use Rattle.scope.proofs.Claims.{text_read, form_source, words_hold}
 use Rattle.scope.specs.Typed.{Typed, typed, most_text, all_gates, all_points, sheet_of}
-use Rattle.scope.specs.Texts.{TextRead, at_fault}
+use Rattle.scope.specs.Texts.{TextRead, at_fault, too_long}
 use Rattle.scope.specs.Texts as texts
 use Rattle.scope.specs.Parsing.{rule_line, wish_line, start, move, step, at_end, walk, read_text}
 use Rattle.scope.specs.Words.{held, words_of}
 use Rattle.scope.proofs.Laws.Completed.{walk_legal}
 use Rattle.words.specs.Entries.{HeadPut}
 use Rattle.words.specs.Refusals.{number_of}
+use Rattle.words.specs.Told.{Fills}
 use Rattle.words.specs.Laws.Sheets.{valid_within}
+use Rattle.words.specs.Laws.Told.{fills_refused}
+use Rattle.words.specs.declared.refusal.Refusal.TheVariants.{Illegal}
 use Rattle.scanner.specs.Look.{look}
 use Rattle.scanner.specs.Tokens.{StuckAt, Came}
 use Rattle.scanner.specs.Laws.Walks.{stuck_within, came_stuck, alike}
@@ -91,6 +94,9 @@ unfolding read_text
 read_stuck s at l h =
     let n : length s - (length s - at) ≡ at = omega (arith, h.within) in
     rw (le-leb (length s) most_text l, h.walk, n, add-one)
+
+pub too_long_lem : {s u : List ℕ} → most_text < length s → Fills (TextRead s) (Err (record { refusal = Illegal; place = 0; column = 0 })) u
+too_long_lem {s} {u} h = fills_refused (TextRead s) _ u (too_long h)
 
 pub illegal : {s : List ℕ} {at : ℕ} → length s ≤ most_text → StuckAt s start 0 at → TextRead s (refused 12 (at + 1) 0)
 illegal {s} {at} l h = (text_read s (refused 12 (at + 1) 0)).0 (read_stuck s at l h)

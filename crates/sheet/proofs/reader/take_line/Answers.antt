@@ -20,7 +20,7 @@ pub returns-in-Rule : goal.returns-in-Rule
 returns-in-Rule g c = rw c.in-Rule.is (rule-taken c.args.line.now.numbers _ _ c.put_rule.ensures)
 
 pub returns-in-Wish : goal.returns-in-Wish
-returns-in-Wish g c = rw c.in-Wish.is (wish-taken c.args.line.now.numbers _ _ _ c.wish_of.ensures c.put_wish.ensures)
+returns-in-Wish g c = rw c.in-Wish.is (wish-taken c.args.line.now.numbers _ _ _ c.codes_of.ensures c.put_wish.ensures)
 
 pub returns-in-End : goal.returns-in-End
 unfolding make

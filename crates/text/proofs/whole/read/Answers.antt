@@ -2,12 +2,12 @@
 use Rattle.words.specs.Laws.Sheets.{zero_words}
 use Rattle.words.specs.Laws.Told.{fills_accepted, fills_refused}
 use Rattle.scope.specs.Words.{held}
-use Rattle.scope.specs.Texts.{TextRead, too_long}
-use Rattle.text.specs.Laws.Texts.{illegal, text_at_fault, text_accepted, text_valid, text_words}
+use Rattle.scope.specs.Texts.{TextRead}
+use Rattle.text.specs.Laws.Texts.{too_long_lem, illegal, text_at_fault, text_accepted, text_valid, text_words}
 use Rattle.text.proofs.whole.read.Goals as goal
 
 pub returns-then-s-gt-MOST_TEXT : goal.returns-then-s-gt-MOST_TEXT
-returns-then-s-gt-MOST_TEXT c = rw c.at.ensures (fills_refused (TextRead c.args.s.now) _ _ (too_long c.if-s-gt-MOST_TEXT.true))
+returns-then-s-gt-MOST_TEXT c = rw c.at.ensures (too_long_lem c.if-s-gt-MOST_TEXT.true)
 
 pub lines_of-requires : goal.lines_of-requires
 lines_of-requires c = (c.if-s-gt-MOST_TEXT.false, zero_words)

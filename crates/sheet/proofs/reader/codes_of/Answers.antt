@@ -1,7 +1,7 @@
 -- Fields that are literals and then zeros are those of their clause, filled up with zeros, so the code of field i is that of literal i.
 use Rattle.std.proofs.Common.{arith}
 use Rattle.sheet.proofs.Literals.{code_fits, code_is}
-use Rattle.sheet.proofs.reader.wish_of.Goals as goal
+use Rattle.sheet.proofs.reader.codes_of.Goals as goal
 
 pub code-requires : goal.code-requires
 code-requires c = code_fits _ c.requires.literals 0 (omega arith)
