@@ -1,5 +1,4 @@
-// What may stand in the fields of a line: the tests of the scope, over numbers. `writer` makes them of words and codes, which have no
-// sign: a line each, and one function for both would have to make a `Number` of each word first.
+// What may stand in the fields of a line: the tests of the scope, over numbers. `writer` asks them too, of the numbers that its words say.
 ghost use Rattle.std.specs.Prelude.{◌≡◌, ◌&&◌, ◌≤◌, length, take, drop};
 ghost use Rattle.std.specs.List.{list_all};
 ghost use Rattle.scope.specs.Sheet.{most_switches, most_faults, most_literals};
@@ -25,10 +24,11 @@ pub fn is_head(switches: Number, faults: Number) -> bool
     is_up_to(switches, MOST_SWITCHES) && is_up_to(faults, MOST_FAULTS)
 }
 
-fn is_point(x: Number, m: u32) -> bool
+// Whether x is one of m points, which may be more than a `Number` counts.
+pub fn is_point(x: Number, m: usize) -> bool
     ensures { result ≡ point m (number_from x) }
 {
-    is_up_to(x, m) && 0 < x.size
+    !x.minus && x.size as usize <= m && 0 < x.size
 }
 
 fn is_literal(x: Number, a: u32) -> bool
@@ -44,7 +44,7 @@ fn is_zero(x: Number) -> bool
 }
 
 // Whether these fields hold 0.
-pub fn are_unused(xs: &[Number]) -> bool
+pub(crate) fn are_unused(xs: &[Number]) -> bool
     ensures { result ≡ zeros (numbers_from xs.now) }
 {
     xs.iter().all(|x| is_zero(*x))
@@ -65,8 +65,8 @@ pub fn are_literals(xs: &[Number], a: u32) -> bool
     true
 }
 
-// The literals of a wish, and nothing else.
-pub fn is_wish(xs: &[Number], a: u32) -> bool
+// The literals of a wish, and nothing else; any form has three fields for them.
+pub(crate) fn is_wish(xs: &[Number], a: u32) -> bool
     requires { 3 ≤ length xs.now }
     ensures { result ≡ (literals a (take most_literals (numbers_from xs.now)) && zeros (drop most_literals (numbers_from xs.now))) }
 {
@@ -74,15 +74,15 @@ pub fn is_wish(xs: &[Number], a: u32) -> bool
     are_literals(first, a) && are_unused(rest)
 }
 
-fn are_all_points(xs: &[Number], m: u32) -> bool
+fn are_all_points(xs: &[Number], m: usize) -> bool
     ensures { result ≡ list_all (point_test m) xs.now }
 {
     xs.iter().all(|x| is_point(*x, m))
 }
 
-// K points of m, and nothing else.
+// K points of m, and nothing else. (The two steps of `is_wish` with another test: a closure for that would be as long.)
 #[tactic(auto, using(crate::proofs::Fields::all_points, crate::proofs::Fields::others_unused))]
-pub fn are_points<const K: usize>(xs: &[Number], m: u32) -> bool
+pub(crate) fn are_points<const K: usize>(xs: &[Number], m: usize) -> bool
     requires { K ≤ length xs.now }
     ensures { result ≡ (are_points m K (numbers_from xs.now) && zeros (drop K (numbers_from xs.now))) }
 {

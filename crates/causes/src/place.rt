@@ -28,7 +28,8 @@ pub struct Place<const N: usize> {
     ghost form: { 3 ≤ N },
 }
 
-// The first of several tests that is not met, each with the refusal that it spares.
+// The first of several tests that is not met, each with the refusal that it spares. The scope lists them so, and one proof does for all
+// kinds of lines, where tests by `require(..)?` would be a proof for each.
 fn first_fault(tests: &[(bool, Refusal)]) -> Result<(), Refusal>
     ensures { Tested (tests_from tests.now) result }
 {
@@ -70,11 +71,11 @@ impl<const N: usize> Place<N> {
         self.is_between() && (self.before.rules == 0 && self.before.wishes == 0)
     }
 
-    // The points that stand before the line: a gate may name no other. `writer` adds counts that may be any words, and so as `usize`.
-    fn points(&self) -> u32
+    // The points that stand before the line: a gate may name no other.
+    fn points(&self) -> usize
         ensures { (t : Sheet) → self.now.before ≡ counts_from t → result ≡ points t }
     {
-        self.before.switches + self.before.faults + self.before.gates
+        self.before.points()
     }
 
     #[tactic(auto, unfolding(scope::specs::Causes::tests))]
@@ -147,7 +148,7 @@ impl<const N: usize> Place<N> {
         ])
     }
 
-    // The refusal of the first test that the line does not meet. Each letter has tests of its own, so that a closure would say the same arm.
+    // The refusal of the first test that the line does not meet. (By a match: each letter has tests of its own.)
     #[tactic(auto, unfolding(scope::specs::Causes::tests))]
     pub fn fault(&self, line: &Line<N>) -> Result<(), Refusal>
         ensures { (t : Sheet) → self.now.before ≡ counts_from t → Tested (tests t self.now.index self.now.last (letter_from line.now.letter) (numbers_from line.now.numbers)) result }

@@ -1,15 +1,11 @@
 -- The lines of a held sheet, one by one: in no promise of an exported call. Assumes nothing.
-use Rattle.std.specs.Prelude.{ℕ, List, [], ◌∷◌, ◌≡◌, get_or}
+use Rattle.std.specs.Prelude.{ℕ, List, [], get_or}
 use Rattle.scope.specs.Sheet.{Line, H, line, head_line, gate_line, rule_line, wish_line, end_line, sheet_lines}
-use Rattle.scope.specs.Words.{word, gate_words, rule_at, held}
+use Rattle.scope.specs.Words.{word, rule_at, held}
 use Rattle.words.specs.Entries.{gate_of_words, clause_from, gate_words_at, wish_words_at}
 use Rattle.writer.specs.Entries.{before_end}
 use Rattle.writer.specs.declared.entries.Entry.{Entry}
 use Rattle.writer.specs.declared.entries.Entry.TheVariants.{Head, Rule, Wish, End}
-
--- words that stand for a gate are its own
-abbrev pub IsGate : List ℕ → Type 0
-IsGate w = gate_words (gate_of_words w) ≡ word w 0 ∷ word w 1 ∷ word w 2 ∷ []
 
 -- the line of an entry
 abbrev pub line_of : ℕ → (u : List ℕ) → Entry → Line

@@ -4,21 +4,22 @@ ghost use Rattle.scope.specs.Sheet.{plus, line, filled, gate_line, wish_line, Va
 ghost use Rattle.scope.specs.Words.{literal_from, held};
 ghost use Rattle.field.specs.Columns.{number_from};
 ghost use Rattle.line.specs.Lines.{letter_from, line_from};
-ghost use Rattle.words.specs.Entries.{gate_of_words, clause_from};
+ghost use Rattle.words.specs.Entries.{gate_from, clause_from};
 ghost use Rattle.writer.specs.Entries.{before_end};
-ghost use Rattle.writer.specs.Lines.{IsGate, line_at};
+ghost use Rattle.writer.specs.Lines.{line_at};
 
 use crate::entries::{Entry, entry_on};
 use field::Number;
 use line::{Letter, Line};
 use words::Words;
 use words::counts::counts_of;
-use words::gate::{AND, GATE_SIZE, NOT, gate_words};
+use words::gate::Gate;
 use words::literal::Literal;
 use words::rule::rule_at;
-use words::wish::{Wish, wish_at};
+use words::sheet::valid_gate;
+use words::wish::{Codes, wish_at};
 
-// That N is 3 or more is asked by each of these: as functions of `Lines` they would be lent words that they do not look at.
+// That N is 3 or more is asked by each of these. It is a fact of `Lines`, but they look at no words, and so are no methods of it.
 
 // The line of these numbers, and zeros behind them. They are put one by one: copied as a part of an array they pass through memory, and
 // writing a full sheet misses its bar.
@@ -41,39 +42,32 @@ fn plain_line<const N: usize>(letter: Letter, x: u32, y: u32) -> Line<N>
     line_of(letter, Number::from(x), Number::from(y), Number::from(0))
 }
 
-// An entry's words as its line: by functions, since a `From` may ask for nothing, and these types are of other crates.
+// An entry as its line: by functions, since a `From` may ask for nothing, and these types are of other crates.
 
-// The words of a gate are its letter and the numbers on its line.
-fn gate_line<const N: usize>(words: [u32; GATE_SIZE]) -> Line<N>
-    requires wide { 3 ≤ N }
-    requires gate { IsGate words }
-    ensures { line_from result ≡ gate_line N (gate_of_words words) }
+fn gate_line<const N: usize>(gate: Gate) -> Line<N>
+    requires { 3 ≤ N }
+    ensures { line_from result ≡ gate_line N (gate_from gate) }
 {
-    let [kind, left, right] = words;
-    match kind {
-        NOT => plain_line(Letter::Not, left, 0),
-        AND => plain_line(Letter::And, left, right),
-        _ => plain_line(Letter::Or, left, right),
+    match gate {
+        Gate::Not(p) => plain_line(Letter::Not, p, 0),
+        Gate::And(p, q) => plain_line(Letter::And, p, q),
+        Gate::Or(p, q) => plain_line(Letter::Or, p, q),
     }
 }
 
-// 2k as k, 2k + 1 as -k.
-fn number(code: u32) -> Number
+// 2k as k, 2k + 1 as -k, and so 0 as 0.
+pub(crate) fn number(code: u32) -> Number
     ensures { number_from result ≡ literal_from code }
 {
-    let literal = Literal::from(code);
-    Number {
-        minus: literal.minus,
-        size: literal.switch,
-    }
+    Number::from(Literal::from(code))
 }
 
 // A word 0 stands for no literal, and its number is 0.
-fn wish_line<const N: usize>(wish: Wish) -> Line<N>
+fn wish_line<const N: usize>(codes: Codes) -> Line<N>
     requires { 3 ≤ N }
-    ensures { line_from result ≡ wish_line N (clause_from wish) }
+    ensures { line_from result ≡ wish_line N (clause_from codes) }
 {
-    let [x, y, z] = wish;
+    let [x, y, z] = codes;
     line_of(Letter::Wish, number(x), number(y), number(z))
 }
 
@@ -96,7 +90,7 @@ impl<const N: usize> Lines<'_, N> {
                 let c = counts_of(self.words);
                 plain_line(Letter::Head, c.switches, c.faults)
             }
-            Entry::Gate(i) => gate_line(gate_words(self.words, i)),
+            Entry::Gate(i) => gate_line(valid_gate(self.words, i)),
             Entry::Rule(i) => plain_line(Letter::Rule, rule_at(self.words, i), 0),
             Entry::Wish(i) => wish_line(wish_at(self.words, i)),
             Entry::End => plain_line(Letter::End, k as u32, 0),

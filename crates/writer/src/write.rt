@@ -10,17 +10,13 @@ ghost use Rattle.writer.specs.Returned.{written_from};
 use crate::entries::line_count;
 use crate::faults::fault_at;
 use crate::lines::Lines;
-use field::FIELD_SIZE;
-use line::{FIELD_COUNT, line_size, put_line};
+use line::{FIELD_COUNT, LINE_SIZE, line_size, put_line};
 use words::Words;
-use words::limit::{MOST_GATES, MOST_RULES, MOST_WISHES};
+use words::limit::MOST_LINES;
 use words::refusal::{Cause, Refusal};
 
-// The lines of the longest sheet: its head, its entries and its end.
-const MOST_LINES: usize = (MOST_GATES + MOST_RULES + MOST_WISHES) as usize + 2;
-
-// The bytes of the longest sheet. A constant's value calls no function, so that the size of a line is written out.
-pub const MOST_SHEET: usize = MOST_LINES * (1 + FIELD_COUNT * FIELD_SIZE + 1);
+// The bytes of the longest sheet.
+pub const MOST_SHEET: usize = MOST_LINES * LINE_SIZE;
 
 // The first cause to turn the held sheet down: its lines are tested from the first.
 fn first_cause(words: &Words) -> Result<(), Cause>
@@ -32,7 +28,7 @@ fn first_cause(words: &Words) -> Result<(), Cause>
     Ok(())
 }
 
-// Puts the lines, each of N fields, one after another: by places, as nothing is known of what a loop over `chunks_exact_mut` leaves.
+// Puts the lines, each of N fields, one after another: by places, as `put_fields` of `line`.
 fn put_lines<const N: usize>(lines: Lines<N>, out: &mut [u8])
     requires valid { Valid (held lines.words.now) }
     requires whole { length out.old ≡ length (sheet_bytes N (held lines.words.now)) }
@@ -50,7 +46,7 @@ fn put_lines<const N: usize>(lines: Lines<N>, out: &mut [u8])
     }
 }
 
-// A sheet whose lines have N fields.
+// A sheet whose lines have N fields; `Lines` has both facts of N, and is made here.
 fn write_form<const N: usize>(words: &Words, out: &mut [u8]) -> Result<usize, Cause>
     requires { (3 ≤ N) × (N ≤ 4) }
     ensures { IsWritten N words.now out.old (written_from result out.new) }

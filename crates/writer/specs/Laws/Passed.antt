@@ -70,9 +70,6 @@ abbrev pub Passed : (u : List ℕ) → ℕ → Type 0
 Passed u k = (n : ℕ) → 3 ≤ n → All Met (take k (table_tests n (held u)))
 
 module _ (u : List ℕ) where
-  pub none_passed : Passed u 0
-  none_passed n wide = tt
-
   module _ (k : ℕ) (p : Passed u k) where
     pub all_passed : before_end u ≤ k → Valid (held u)
     all_passed h =

@@ -1,13 +1,17 @@
 -- Whether words stand for a gate that names points, or for a clause, by tests of the words. Assumes nothing.
-use Rattle.std.specs.Prelude.{ℕ, ◌/◌, ◌%◌, ◌<◌, Bool, cond, not, ◌&&◌, List, [], ◌∷◌, ◌≢◌, ◌≡◌, eqb, leb, true, false, refl}
+-- A theorem that was given stays, though nothing cites it: `kind_fits`, and those of a gate and of a clause by their words.
+use Rattle.std.specs.Prelude.{ℕ, ◌/◌, ◌%◌, ◌<◌, Bool, cond, not, ◌&&◌, List, [], ◌∷◌, length, get_or, ◌≢◌, ◌≡◌, eqb, leb, true, false, refl}
 use Prim.Native.Char.{code}
 use Rattle.std.proofs.Common.{arith, ◌∙◌, sym, eqb-true, eq-eqb, ne_eqb}
 use Rattle.std.proofs.Math.Bool.{and-true, and-false, and_assoc}
-use borrow.Author.Tests.{eqb-false}
+use Rattle.std.proofs.lemmas.Bool.{eqb-false}
 use Rattle.scope.specs.Sheet.{plus, Gate}
 use Rattle.scope.specs.Causes.{is, point, literal, zeros, literals}
 use Rattle.scope.specs.Words.{word, no_gate, gate_of, gate_words, literal_from}
 use Rattle.words.specs.Entries.{gate_of_words}
+use Rattle.field.specs.Columns.{number_from}
+use Rattle.field.specs.declared.Number.{Number}
+use Rattle.line.specs.Lines.{numbers_from}
 use Rattle.writer.specs.Tested.{named, literals_of}
 
 -- ---- gates
@@ -43,6 +47,11 @@ module _ (m p q : ℕ) where
 
   pub none_named : (k : ℕ) → k ≢ code "N" → k ≢ code "A" → k ≢ code "O" → named m (gate_of k p q) ≡ false
   none_named k a b c = gate_by_words m (k ∷ p ∷ q ∷ []) ∙ rw (ne_eqb k (code "N") a, ne_eqb k (code "A") b, ne_eqb k (code "O") c) refl
+
+-- words that are no gate's are held as one that names no point
+pub nothing_named : (m : ℕ) → named m no_gate ≡ false
+unfolding named
+nothing_named m = and-false (leb 0 m)
 
 -- the kind is a letter
 pub kind_fits : (v : Gate) {k p q : ℕ} → gate_words v ≡ k ∷ p ∷ q ∷ [] → k < 256
@@ -88,3 +97,11 @@ module _ (a x y z : ℕ) where
 
   pub three_literals : x ≢ 0 → y ≢ 0 → z ≢ 0 → three ≡ (literal a (literal_from x) && literal a (literal_from y) && literal a (literal_from z))
   three_literals d e f = by_words ∙ rw (ne_eqb x 0 d, ne_eqb y 0 e, ne_eqb z 0 f) (sym (and_assoc (literal a (literal_from x)) (literal a (literal_from y)) (literal a (literal_from z))))
+
+-- numbers that are each that of a word
+pub numbers_mapped : (w : List ℕ) (xs : List Number) (d : Number) → length xs ≡ 3 → ((i : ℕ) → i < 3 → number_from (get_or xs i d) ≡ literal_from (word w i)) → numbers_from xs ≡ literals_of w
+numbers_mapped w (x ∷ y ∷ z ∷ []) d n each = rw (each 0 (omega arith), each 1 (omega arith), each 2 (omega arith)) refl
+numbers_mapped w [] d n each = absurd (omega arith)
+numbers_mapped w (x ∷ []) d n each = absurd (omega arith)
+numbers_mapped w (x ∷ y ∷ []) d n each = absurd (omega arith)
+numbers_mapped w (x ∷ y ∷ z ∷ u ∷ xs) d n each = absurd (omega arith)

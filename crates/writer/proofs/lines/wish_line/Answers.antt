@@ -7,5 +7,5 @@ use Rattle.writer.proofs.lines.wish_line.Goals as goal
 
 pub returns : goal.returns
 returns g c =
-    let w = c.args.wish in
+    let w = c.args.codes in
     (rw (c.number.ensures, c.number-2.ensures, c.number-3.ensures) at c.line_of.ensures) ∙ ap (line W) (literals_filled g.row.N c.requires (word w 0) (word w 1) (word w 2))

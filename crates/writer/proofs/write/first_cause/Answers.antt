@@ -1,22 +1,15 @@
 -- The lines passed meet their tests, and the first that does not is told.
-use Rattle.std.proofs.Common.{◌≡◌, ◌+◌, arith, rules, refl, subst}
-use Rattle.std.specs.Prelude.{Result, Ok, Err, MatchResult, IsErrAnd}
+use Rattle.std.proofs.Common.{◌≡◌, ◌+◌, arith, rules}
+use Rattle.std.specs.Prelude.{Ok}
 use Rattle.std.proofs.lemmas.Result.{err_from_is_err_and}
+use Rattle.words.specs.Laws.Results.{mapped_err}
 use Rattle.writer.specs.Laws.Passed.{all_passed, fault_found, next_passed}
 use Rattle.writer.proofs.write.first_cause.Goals as goal
-
--- an error that `map_err` gave comes from one, by what its closure ensures
-mapped_err : {E D : Type 0} (x : Result Unit E) (y : Result Unit D) (Q : E → D → Type 0) → MatchResult x (λ u. y ≡ Ok u) (λ e. IsErrAnd y (Q e)) → {d : D} → y ≡ Err d → (e : E) × (x ≡ Err e) × Q e d
-mapped_err (Ok u) y Q h g = cc
-mapped_err (Err e) y Q h {d} g =
-    let p = err_from_is_err_and y h in
-    let s : p.0 ≡ d = cc in
-    (e, refl, subst (Q e) s p.2)
 
 pub returns-in_err-map_err : goal.returns-in_err-map_err
 returns-in_err-map_err c =
     let p = err_from_is_err_and c.from_residual.result c.from_residual.ensures.1 in
-    let (e, h, q) = mapped_err c.fault_at.result c.map_err.result _ c.map_err.ensures.cases c.in_err-map_err.was in
+    let (e, h, q) = mapped_err _ c.fault_at.result c.map_err.result c.map_err.ensures.cases c.in_err-map_err.was in
     let s : c.in_err-map_err.field-0.0 ≡ record { refusal = e; place = c.loop-k.k-counter + 1; column = 0 } = search rules in
     rw (p.1, p.2, s) (fault_found c.args.words.now _ c.loop-k.invariant.1 (omega arith) c.fault_at.result c.fault_at.ensures h)
 

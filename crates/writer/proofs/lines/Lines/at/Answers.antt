@@ -1,18 +1,15 @@
--- By what the line is of: a valid sheet has room for it, and the words of its gates are their own.
+-- By what the line is of: a valid sheet has room for it.
 use Rattle.std.proofs.Common.{arith, sym, ap, ◌∙◌}
-use Rattle.scope.specs.Sheet.{plus, R, Z, line}
-use Rattle.words.specs.Laws.Held.{held_gates, held_rules, held_wishes, gate_kept}
+use Rattle.scope.specs.Sheet.{plus, R, Z, line, gate_line}
+use Rattle.words.specs.Laws.Held.{held_gates, held_rules, held_wishes, held_gate}
 use Rattle.writer.specs.Laws.Filled.{one_filled}
 use Rattle.writer.specs.Laws.Lines.{line_is}
 use Rattle.writer.specs.Laws.Printed.{few_lines}
 use Rattle.writer.specs.declared.entries.Entry.{Entry}
 use Rattle.writer.proofs.lines.Lines.at.Goals as goal
 
-pub gate_words-requires : goal.gate_words-requires
-gate_words-requires g c = omega (arith, c.in-Gate.ensures, c.requires.valid.few_gates, held_gates c.args.self.words.now)
-
-pub gate_line-requires : goal.gate_line-requires
-gate_line-requires g c = (omega arith, (omega (arith, c.args.self.form), rw c.gate_words.ensures (gate_kept c.args.self.words.now c.requires.valid c.in-Gate.i c.in-Gate.ensures.0)))
+pub valid_gate-requires-clause-listed : goal.valid_gate-requires-clause-listed
+valid_gate-requires-clause-listed g c = omega (arith, c.in-Gate.ensures, held_gates c.args.self.words.now)
 
 pub rule_at-requires : goal.rule_at-requires
 rule_at-requires g c = omega (arith, c.in-Rule.ensures, c.requires.valid.few_rules, held_rules c.args.self.words.now)
@@ -27,7 +24,7 @@ pub returns-in-Head : goal.returns-in-Head
 returns-in-Head g c = (rw c.counts_of-c.ensures at c.plain_line.ensures) ∙ (sym (line_is g.row.N c.args.self.form.0 c.args.self.words.now c.args.k Entry.Head c.in-Head.ensures))
 
 pub returns-in-Gate : goal.returns-in-Gate
-returns-in-Gate g c = rw (c.gate_line.ensures, c.gate_words.ensures) (sym (line_is g.row.N c.args.self.form.0 c.args.self.words.now c.args.k (Entry.Gate c.in-Gate.i) c.in-Gate.ensures))
+returns-in-Gate g c = (c.gate_line.ensures ∙ ap (gate_line g.row.N) (c.valid_gate.ensures ∙ held_gate c.args.self.words.now c.in-Gate.i c.in-Gate.ensures.0)) ∙ (sym (line_is g.row.N c.args.self.form.0 c.args.self.words.now c.args.k (Entry.Gate c.in-Gate.i) c.in-Gate.ensures))
 
 pub returns-in-Rule : goal.returns-in-Rule
 returns-in-Rule g c =
