@@ -2,5 +2,4 @@
 pub mod Gates
 pub mod Points
 pub mod Patterns
-pub mod Literals
 pub mod Wishes

@@ -5,22 +5,8 @@ ghost use Rattle.scope.specs.Rule.{missed};
 ghost use Rattle.scope.specs.Jobs.{task};
 ghost use Rattle.circuit.specs.Answers.{missed_of};
 
-use crate::point::truth;
-use words::sheet::Sheet;
-use words::{Pattern, Plan};
-
-// Whether all rules are true.
-#[tactic(auto, using(crate::specs::Laws::Patterns::passes_rules, crate::specs::Laws::Patterns::passes_but))]
-pub fn passes(sheet: &Sheet, plan: Plan, pattern: Pattern) -> bool
-    ensures { result ≡ meaning.passes sheet.now plan.0 pattern.0 }
-{
-    for i in 0..sheet.counts().rules as usize {
-        if !truth(sheet, plan, pattern, sheet.rule(i)) {
-            return false;
-        }
-    }
-    true
-}
+use crate::planned::Planned;
+use words::Pattern;
 
 // 2 to the k.
 pub fn power(k: u32) -> u32
@@ -30,11 +16,26 @@ pub fn power(k: u32) -> u32
     1 << k
 }
 
-// The smallest pattern that a plan does not pass, if there is one.
-pub fn first_missed(sheet: &Sheet, plan: Plan) -> Option<Pattern>
-    ensures { missed_of result ≡ missed (task sheet.now) plan.0 }
-{
-    (0..power(sheet.counts().faults))
-        .find(|q| !passes(sheet, plan, Pattern(*q)))
-        .map(Pattern)
+impl Planned<'_> {
+    // Whether all rules are true.
+    #[tactic(auto, using(crate::specs::Laws::Patterns::passes_rules, crate::specs::Laws::Patterns::passes_but))]
+    pub fn passes(self, pattern: Pattern) -> bool
+        ensures { result ≡ meaning.passes self.entry.sheet.now self.entry.plan.0 pattern.0 }
+    {
+        for i in 0..self.sheet.counts().rules as usize {
+            if !self.truth(pattern, self.sheet.rule(i)) {
+                return false;
+            }
+        }
+        true
+    }
+
+    // The smallest pattern that the plan does not pass, if there is one.
+    pub fn first_missed(self) -> Option<Pattern>
+        ensures { missed_of result ≡ missed (task self.entry.sheet.now) self.entry.plan.0 }
+    {
+        (0..power(self.sheet.counts().faults))
+            .find(|q| !self.passes(Pattern(*q)))
+            .map(Pattern)
+    }
 }

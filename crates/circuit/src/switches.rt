@@ -1,15 +1,14 @@
 // Switches as a plan sets them: which are on, and which wishes they keep.
-ghost use Rattle.std.specs.Prelude.{◌≡◌, ◌≤◌};
+ghost use Rattle.std.specs.Prelude.{◌≡◌, ◌≤◌, ◌<◌, false, get_or};
 ghost use Rattle.scope.specs.Sheet.{most_switches, All, Among, Valid};
 ghost use Rattle.scope.specs.Sheet as scope;
 ghost use Rattle.scope.specs.Meaning.{bits, nth, keeps};
-ghost use Rattle.words.specs.Entries.{clause_from};
-ghost use Rattle.circuit.specs.Steps.{literals_of};
+ghost use Rattle.words.specs.Entries.{literals_there, clause_there};
 
+use crate::planned::Planned;
 use crate::point::digit;
 use words::Plan;
 use words::literal::Literal;
-use words::sheet::Sheet;
 use words::wish::Wish;
 
 // How many there are, and the plan.
@@ -21,18 +20,6 @@ pub struct Switches {
 }
 
 impl Switches {
-    // Those of a sheet.
-    pub fn of(sheet: &Sheet, plan: Plan) -> Switches
-        ensures valid { Valid sheet.now }
-        ensures count { result.count ≡ sheet.now.switches }
-        ensures plan { result.plan ≡ plan }
-    {
-        Switches {
-            count: sheet.counts().switches,
-            plan,
-        }
-    }
-
     // Whether switch k is on.
     pub fn is_on(self, k: u32) -> bool
         requires { Among self.count k }
@@ -41,23 +28,41 @@ impl Switches {
         digit(self.plan.0, self.count, k)
     }
 
-    // Whether they make the literal with this code true; 0, which the tables for C have where there is none, is not.
-    fn makes(self, code: u32) -> bool
-        requires { All (λ l. Among self.count l.size) (literals_of code) }
-        ensures { result ≡ keeps (nth (bits self.count self.plan.0)) (literals_of code) }
+    // Whether there is a literal, and they make it true.
+    fn makes(self, literal: Option<Literal>) -> bool
+        requires { All (λ l. Among self.count l.size) (literals_there literal) }
+        ensures { result ≡ keeps (nth (bits self.count self.plan.0)) (literals_there literal) }
     {
-        if code == 0 {
-            return false;
-        }
-        let literal = Literal::from(code);
-        self.is_on(literal.switch) != literal.minus
+        literal.is_some_and(|l| self.is_on(l.switch) != l.minus)
     }
 
     // Whether they keep a wish.
     pub fn keeps(self, wish: Wish) -> bool
-        requires { scope.Wish self.count (clause_from wish) }
-        ensures { result ≡ keeps (nth (bits self.count self.plan.0)) (clause_from wish) }
+        requires { scope.Wish self.count (clause_there wish) }
+        ensures { result ≡ keeps (nth (bits self.count self.plan.0)) (clause_there wish) }
     {
-        wish.iter().any(|code| self.makes(*code))
+        wish.iter().any(|literal| self.makes(*literal))
+    }
+}
+
+impl Planned<'_> {
+    // How many switches there are, with the plan: read once, for all wishes.
+    pub fn switches(self) -> Switches
+        ensures valid { Valid self.entry.sheet.now }
+        ensures count { result.count ≡ self.entry.sheet.now.switches }
+        ensures plan { result.plan ≡ self.entry.plan }
+    {
+        Switches {
+            count: self.sheet.counts().switches,
+            plan: self.plan,
+        }
+    }
+
+    // Whether switch i is on, counted from 0.
+    pub fn is_on(self, i: usize) -> bool
+        requires { i < self.sheet.now.switches }
+        ensures { result ≡ get_or (bits self.entry.sheet.now.switches self.entry.plan.0) i false }
+    {
+        self.switches().is_on(i as u32 + 1)
     }
 }

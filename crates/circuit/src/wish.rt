@@ -1,21 +1,30 @@
-// What a plan costs.
-ghost use Rattle.std.specs.Prelude.{◌≡◌};
+// Wishes: which a plan keeps, and what it costs.
+ghost use Rattle.std.specs.Prelude.{[], ◌≡◌, ◌<◌, length, get_or};
 ghost use Rattle.scope.specs.Meaning as meaning;
 
-use crate::switches::Switches;
-use words::Plan;
-use words::sheet::Sheet;
+use crate::planned::Planned;
 
-// The wishes that a plan breaks. Each is tested once, by its own literals.
-pub fn cost(sheet: &Sheet, plan: Plan) -> u32
-    ensures { result ≡ meaning.cost sheet.now plan.0 }
-{
-    let switches = Switches::of(sheet, plan);
-    let mut count = 0;
-    for i in 0..sheet.counts().wishes as usize {
-        if !switches.keeps(sheet.wish(i)) {
-            count += 1;
-        }
+impl Planned<'_> {
+    // Whether wish i is kept, counted from 0.
+    #[tactic(auto, unfolding(scope::specs::Meaning::kept, scope::specs::Meaning::switch_on))]
+    pub fn is_kept(self, i: usize) -> bool
+        requires { i < length self.sheet.now.wishes }
+        ensures { result ≡ meaning.kept self.entry.sheet.now self.entry.plan.0 (get_or self.entry.sheet.now.wishes i []) }
+    {
+        self.switches().keeps(self.sheet.wish(i))
     }
-    count
+
+    // The wishes that the plan breaks. Each is tested once, by its own literals.
+    pub fn cost(self) -> u32
+        ensures { result ≡ meaning.cost self.entry.sheet.now self.entry.plan.0 }
+    {
+        let switches = self.switches();
+        let mut count = 0;
+        for i in 0..self.sheet.counts().wishes as usize {
+            if !switches.keeps(self.sheet.wish(i)) {
+                count += 1;
+            }
+        }
+        count
+    }
 }

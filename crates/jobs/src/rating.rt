@@ -5,8 +5,8 @@ ghost use Rattle.scope.specs.Jobs as jobs;
 ghost use Rattle.jobs.specs.Figures.{rating_of};
 
 use crate::outcome::Rating;
-use circuit::rule::{first_missed, power};
-use circuit::wish::cost;
+use circuit::planned::Planned;
+use circuit::rule::power;
 use words::Plan;
 use words::refusal::{Cause, Refusal};
 use words::sheet::Sheet;
@@ -17,8 +17,9 @@ pub fn rate(sheet: &Sheet, plan: Plan) -> Result<Rating, Cause>
     if power(sheet.counts().switches) <= plan.0 {
         return Err(Cause::at(Refusal::HighPlan, 0));
     }
+    let planned = Planned { sheet, plan };
     Ok(Rating {
-        cost: cost(sheet, plan),
-        missed: first_missed(sheet, plan),
+        cost: planned.cost(),
+        missed: planned.first_missed(),
     })
 }

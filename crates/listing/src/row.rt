@@ -11,7 +11,8 @@ const ROW_FIELDS: usize = 3;
 // The bytes of a row: its letter, its numbers and a line feed. A constant's value calls no function, such as `line_size`.
 pub const ROW_SIZE: usize = 1 + ROW_FIELDS * FIELD_SIZE + 1;
 
-// What a row is of.
+// What a row is of. (An enum of its own: those of a sheet's lines, `line::Letter`, have others, and A is an and there. One enum of all
+// would have letters that no sheet has, and some that no listing has.)
 #[derive(Clone, Copy)]
 pub enum Letter {
     Answer = b'A' as isize,
@@ -21,6 +22,17 @@ pub enum Letter {
     End = b'Z' as isize,
 }
 
+impl From<Letter> for u8 {
+    ghost use Rattle.std.specs.Prelude.{◌≡◌};
+    ghost use Rattle.listing.specs.Rows.{byte_of};
+
+    ghost from_gives = { λ l b. b ≡ byte_of l };
+
+    fn from(letter: Letter) -> u8 {
+        letter as u8
+    }
+}
+
 pub fn put_row(out: &mut [u8], letter: Letter, numbers: [u32; ROW_FIELDS]) -> usize
     requires room { row_size ≤ length out.old }
     requires small { Small numbers }
@@ -28,7 +40,7 @@ pub fn put_row(out: &mut [u8], letter: Letter, numbers: [u32; ROW_FIELDS]) -> us
 {
     put_line(
         &mut out[..ROW_SIZE],
-        letter as u8,
+        u8::from(letter),
         &numbers.map(Number::from),
     );
     ROW_SIZE

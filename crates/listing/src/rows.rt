@@ -6,7 +6,9 @@ ghost use Rattle.scope.specs.Program.{each, switch_row, wish_row, pattern_row, r
 ghost use Rattle.listing.specs.Rows.{row_size, byte_of, field_end, figure_rows, Small, Given, Wrote};
 
 use crate::row::{Letter, put_row};
-use crate::shown::Found;
+use circuit::planned::Planned;
+
+// Each function asks for the room of what it puts: the part that it is lent is as long as its caller makes it.
 
 // A row for each of n figures: its number, counted from 1, and what is given for its place, counted from 0.
 fn put_rows<F: Fn(usize) -> u32>(out: &mut [u8], letter: Letter, n: usize, figure: F) -> usize
@@ -25,7 +27,7 @@ fn put_rows<F: Fn(usize) -> u32>(out: &mut [u8], letter: Letter, n: usize, figur
 }
 
 // A row for each switch, on or off.
-pub fn put_switches(out: &mut [u8], found: Found) -> usize
+pub fn put_switches(out: &mut [u8], found: Planned) -> usize
     requires { row_size * found.sheet.now.switches ≤ length out.old }
     ensures valid { Valid found.entry.sheet.now }
     ensures rows { Wrote out.old (each switch_row 1 (bits found.entry.sheet.now.switches found.entry.plan.0)) out.new result }
@@ -35,7 +37,7 @@ pub fn put_switches(out: &mut [u8], found: Found) -> usize
 }
 
 // A row for each wish, kept or broken.
-pub fn put_wishes(out: &mut [u8], found: Found) -> usize
+pub fn put_wishes(out: &mut [u8], found: Planned) -> usize
     requires { row_size * length found.sheet.now.wishes ≤ length out.old }
     ensures { Wrote out.old (each (wish_row found.entry.sheet.now found.entry.plan.0) 1 found.entry.sheet.now.wishes) out.new result }
 {

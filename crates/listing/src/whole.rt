@@ -5,9 +5,10 @@ ghost use Rattle.scope.specs.Program.{room};
 ghost use Rattle.listing.specs.Rows.{row_size, Wrote, Small};
 ghost use Rattle.listing.specs.Listing.{plan_rows_of, plan_count, listing_rows, row_count};
 
+use crate::head::Head;
 use crate::row::{Letter, ROW_SIZE, put_row};
 use crate::rows::{put_patterns, put_switches, put_wishes};
-use crate::shown::{Found, Head};
+use circuit::planned::Planned;
 use words::limit::{MOST_SWITCHES, MOST_WISHES};
 
 // The longest list that is printed.
@@ -18,7 +19,7 @@ pub const MOST_LISTING: usize = (MOST_SWITCHES as usize + MOST_WISHES as usize +
     * ROW_SIZE;
 
 // A row for each switch and each wish, if a plan was found.
-fn put_plan(out: &mut [u8], found: Option<Found>) -> usize
+fn put_plan(out: &mut [u8], found: Option<Planned>) -> usize
     requires { row_size * plan_count found ≤ length out.old }
     ensures rows { Wrote out.old (plan_rows_of found.entry) out.new result }
     ensures few { plan_count found.entry ≤ most_switches + most_wishes }
@@ -30,8 +31,8 @@ fn put_plan(out: &mut [u8], found: Option<Found>) -> usize
     middle + put_wishes(&mut out[middle..], found)
 }
 
-// The listing, at the beginning of `out`. Returns its length.
-pub fn put_listing(out: &mut [u8], head: Head, found: Option<Found>, list: &[u32]) -> usize
+// The listing, at the beginning of `out`. Returns its length, as C gets a buffer and a length apart.
+pub fn put_listing(out: &mut [u8], head: Head, found: Option<Planned>, list: &[u32]) -> usize
     requires few { length list.now ≤ room }
     requires small { Small list.now }
     requires room { row_size * row_count found list.now ≤ length out.old }

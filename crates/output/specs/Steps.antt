@@ -2,7 +2,7 @@
 use Rattle.std.specs.Prelude.{◌<◌, ◌≡◌}
 use Rattle.scope.specs.Jobs.{Result}
 use Rattle.scope.specs.Program.{third}
-use Rattle.listing.specs.declared.shown.Head.{Head}
+use Rattle.listing.specs.declared.head.Head.{Head}
 use Rattle.listing.specs.Rows.{field_end}
 
 -- the figures of the A line fit their fields

@@ -1,5 +1,5 @@
 // What the programs print, over what any reader told: the listing of Answer's outcome, or the sheet that a text stands for. It rests on
-// `jobs` for the outcome, and on `listing` and `writer` for its bytes.
+// `jobs` for the outcome, on `listing` and `writer` for its bytes, on `circuit` for a plan with its sheet, on `words` and on `scope`.
 #![tactic(auto)]
 
 ghost use Rattle.std.specs.Prelude.{◌≡◌, ◌*◌, ◌≤◌, length, ltb, Err, is_none, unwrap_or};
@@ -12,9 +12,10 @@ ghost use Rattle.jobs.specs.Figures.{result_of};
 ghost use Rattle.listing.specs.Rows.{row_size, Wrote};
 ghost use Rattle.output.specs.Steps.{Printable, Heads};
 
+use circuit::planned::Planned;
 use jobs::answer::answer;
 use jobs::outcome::Outcome;
-use listing::shown::{Found, Head};
+use listing::head::Head;
 use listing::whole::{ROOM, put_listing};
 use words::refusal::{Cause, Refusal};
 use words::sheet::Sheet;
@@ -47,10 +48,11 @@ fn head(outcome: Outcome) -> Head
     }
 }
 
-// What is told has to be a source. A struct around it with that fact would lose it at the match, where the sheet or the cause is handed
-// on. (A sheet's counts tell too that it is valid; nothing here asks for them.)
+// What is told has to be a source, or a figure would not fit its field. Each function asks for it: a struct of a reading and this fact
+// would lose the fact at the match, where the sheet or the cause is handed on alone.
 
-// Puts the listing of Answer's outcome at the beginning of `out`, and returns its length.
+// Puts the listing of Answer's outcome at the beginning of `out`, and returns its length. (Two arms, each a case of the promise: by `map`
+// the proof would speak of candidates, of a crate that is not rested on.)
 fn put_answer(sheet: &Sheet, out: &mut [u8]) -> usize
     requires source { Source (accepted sheet.now) }
     requires room { most_output ≤ length out.old }
@@ -61,7 +63,7 @@ fn put_answer(sheet: &Sheet, out: &mut [u8]) -> usize
     let listed = &list[..outcome.length];
     match outcome.answer {
         Ok(best) => {
-            let found = Found {
+            let found = Planned {
                 sheet,
                 plan: best.plan,
             };

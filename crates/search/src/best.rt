@@ -9,7 +9,8 @@ ghost use Rattle.scope.specs.Jobs.{task};
 ghost use Rattle.search.specs.Answers.{best_of, Priced};
 ghost use Rattle.search.specs.Steps.{fails_of, Fails, improves_of};
 
-use circuit::rule::{passes, power};
+use circuit::planned::Planned;
+use circuit::rule::power;
 use words::sheet::Sheet;
 use words::{Pattern, Plan};
 
@@ -21,11 +22,10 @@ pub struct Candidate {
 }
 
 // Whether the plan passes each pattern of the list; left at the first that it does not.
-fn passes_all(sheet: &Sheet, list: &[u32], plan: Plan) -> bool
-    ensures { result ≡ passes_all (task sheet.now) plan.0 list.now }
+fn passes_all(planned: Planned, list: &[u32]) -> bool
+    ensures { result ≡ passes_all (task planned.entry.sheet.now) planned.entry.plan.0 list.now }
 {
-    list.iter()
-        .all(|pattern| passes(sheet, plan, Pattern(*pattern)))
+    list.iter().all(|pattern| planned.passes(Pattern(*pattern)))
 }
 
 // Whether a later plan of this cost would take over from the best so far.
@@ -46,20 +46,19 @@ fn known_to_fail(last: Option<Candidate>, new: Candidate) -> bool
 // The better of the best so far and the next plan. Its cost is looked at first: a plan that costs no
 // less, or is known to fail, is left before any pattern is tried.
 fn with_plan(
-    sheet: &Sheet,
+    planned: Planned,
     list: &[u32],
     last: Option<Candidate>,
     best: Option<Candidate>,
-    plan: Plan,
 ) -> Option<Candidate>
-    requires { Fails (task sheet.now) list.now last × Priced (task sheet.now) best × (plan.0 < plans sheet.now) }
-    ensures { (best_of result ≡ keep (meaning.cost sheet.now) (passes_all (task sheet.now) plan.0 list.now) plan.0 (best_of best)) × Priced (task sheet.now) result }
+    requires { Fails (task planned.sheet.now) list.now last × Priced (task planned.sheet.now) best × (planned.plan.0 < plans planned.sheet.now) }
+    ensures { (best_of result ≡ keep (meaning.cost planned.entry.sheet.now) (passes_all (task planned.entry.sheet.now) planned.entry.plan.0 list.now) planned.entry.plan.0 (best_of best)) × Priced (task planned.entry.sheet.now) result }
 {
     let new = Candidate {
-        plan,
-        cost: circuit::wish::cost(sheet, plan),
+        plan: planned.plan,
+        cost: planned.cost(),
     };
-    if !known_to_fail(last, new) && improves(best, new.cost) && passes_all(sheet, list, plan) {
+    if !known_to_fail(last, new) && improves(best, new.cost) && passes_all(planned, list) {
         Some(new)
     } else {
         best
@@ -75,7 +74,11 @@ pub fn best_plan(sheet: &Sheet, list: &[u32], last: Option<Candidate>) -> Option
     let end = power(sheet.counts().switches);
     let mut best = None;
     for i in 0..end {
-        best = with_plan(sheet, list, last, best, Plan(i));
+        let planned = Planned {
+            sheet,
+            plan: Plan(i),
+        };
+        best = with_plan(planned, list, last, best);
     }
     best
 }

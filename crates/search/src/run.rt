@@ -6,7 +6,7 @@ ghost use Rattle.circuit.specs.Answers.{missed_of};
 ghost use Rattle.search.specs.Answers.{best_of, Ran};
 
 use crate::best::{Candidate, best_plan};
-use circuit::rule::first_missed;
+use circuit::planned::Planned;
 use words::Pattern;
 use words::sheet::Sheet;
 
@@ -26,7 +26,8 @@ pub struct Run {
 fn next(sheet: &Sheet, candidate: Option<Candidate>) -> Option<Pattern>
     ensures { missed_of result ≡ missed_by (task sheet.now) (best_of candidate) }
 {
-    first_missed(sheet, candidate?.plan)
+    let plan = candidate?.plan;
+    Planned { sheet, plan }.first_missed()
 }
 
 // Rounds until the run ends: the list goes into `list`, and words after it keep their content. A `for` over the room would have the last

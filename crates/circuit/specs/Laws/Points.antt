@@ -1,4 +1,5 @@
 -- The truth of the points of a sheet, as the code goes through them. Assumes nothing.
+-- A theorem that was given stays, though nothing cites it: `few_inputs`, `in_room`.
 use Rattle.std.specs.Prelude.{ℕ, suc, ◌+◌, ◌-◌, ◌≤◌, ◌<◌, Bool, true, false, not, ◌≢◌, ◌≡◌, length, get_or}
 use Prim.Native.Char.{code}
 use Rattle.std.proofs.Common.{arith, ap, sym, ◌∙◌}

@@ -1,4 +1,5 @@
 -- What follows for a job from what was read. Assumes nothing.
+-- A theorem that was given stays, though nothing cites it: `short_refused`, `rating_refused`, `rating_high`, `rating_low`, `high_next`, `high_start`, `answer_run`.
 use Rattle.std.specs.Prelude.{ℕ, zero, suc, ◌+◌, ◌≤◌, ◌<◌, List, [], ◌∷◌, ◌≡◌, refl, length, get_or, take, drop, Option, Some, None, MatchOption, Result, Ok, Err, IfOk}
 use Rattle.std.specs.List.{AllWithin, HoldsAt}
 use Rattle.std.proofs.Common.{arith, add-one, sym, ap, ap₂, drop_of_length-le, drop-cons, length-take-le, lt-ltb, le-ltb}

@@ -1,4 +1,5 @@
 -- The three calls of demand 3 keep it, as each returns what its job gives. Assumes nothing.
+-- A theorem that was given stays, though nothing cites it: `front_within`.
 use Rattle.std.specs.Prelude.{ℕ, ◌≤◌, cond, List, ◌≡◌, refl, ltb, length, take, Result, Ok, Err}
 use Rattle.std.proofs.Math.Decide.{dec_le}
 use Rattle.std.proofs.Common.{arith, sym, ap, subst, ◌∙◌, take-take, take_all, length-take-le, lt-ltb, le-ltb}

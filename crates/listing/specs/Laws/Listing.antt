@@ -5,8 +5,8 @@ use Rattle.scope.specs.Sheet.{Sheet, most_switches, most_wishes, Valid}
 use Rattle.scope.specs.Meaning.{bits}
 use Rattle.scope.specs.Program.{Row, row, each, switch_row, wish_row, pattern_row}
 use Rattle.scope.proofs.Laws.Points.{length_bits}
-use Rattle.listing.specs.declared.shown.Head.{Head}
-use Rattle.listing.specs.declared.shown.Found.{Found}
+use Rattle.circuit.specs.declared.planned.Planned.{Planned}
+use Rattle.listing.specs.declared.head.Head.{Head}
 use Rattle.listing.specs.Rows.{row_size, Wrote}
 use Rattle.listing.specs.Listing.{plan_rows_of, plan_count, listing_rows, row_count}
 use Rattle.listing.specs.Laws.Rows.{length_each, rest, with_rest, part_left, wrote_more}
@@ -14,14 +14,14 @@ use Rattle.listing.specs.Laws.Rows.{length_each, rest, with_rest, part_left, wro
 pub switch_count : (t : Sheet) (plan : ℕ) → length (each switch_row 1 (bits t.switches plan)) ≡ t.switches
 switch_count t plan = length_each switch_row 1 (bits t.switches plan) ∙ length_bits t.switches plan
 
-pub plan_length : (f : Option Found) → length (plan_rows_of f) ≡ plan_count f
+pub plan_length : (f : Option Planned) → length (plan_rows_of f) ≡ plan_count f
 plan_length None = refl
 plan_length (Some f) =
     let t : Sheet = f.sheet.now in
     omega (arith, length-append (each switch_row 1 (bits t.switches f.plan.0)) (each (wish_row t f.plan.0) 1 t.wishes), switch_count t f.plan.0, length_each (wish_row t f.plan.0) 1 t.wishes)
 
 -- a valid sheet has few switches and wishes, and without a plan none is shown
-pub plan_few : (f : Option Found) → IfSome f (λ f. Valid f.sheet.now) → plan_count f ≤ most_switches + most_wishes
+pub plan_few : (f : Option Planned) → IfSome f (λ f. Valid f.sheet.now) → plan_count f ≤ most_switches + most_wishes
 plan_few None v = omega arith
 plan_few (Some f) v = omega (arith, v.switches, v.few_wishes)
 
@@ -29,14 +29,14 @@ plan_few (Some f) v = omega (arith, v.switches, v.few_wishes)
 abbrev answer_row : Head → Row
 answer_row h = row "A" h.number h.place h.figure
 
-abbrev middle_rows : Head → Option Found → List Row
+abbrev middle_rows : Head → Option Planned → List Row
 middle_rows h f = answer_row h ∷ plan_rows_of f
 
-abbrev front_rows : Head → Option Found → List ℕ → List Row
+abbrev front_rows : Head → Option Planned → List ℕ → List Row
 front_rows h f list = middle_rows h f ++ each pattern_row 1 list
 
 -- four parts, one after another: A, the plan's rows, the patterns, Z
-module _ (out : List ℕ) (h : Head) (f : Option Found) (list : List ℕ) (room : row_size * row_count f list ≤ length out) where
+module _ (out : List ℕ) (h : Head) (f : Option Planned) (list : List ℕ) (room : row_size * row_count f list ≤ length out) where
   module _ {o n₁ : List ℕ} {e m₁ : ℕ} (p : Wrote out (answer_row h ∷ []) o e) (q : Wrote (rest e o) (plan_rows_of f) n₁ m₁) where
     middle : Wrote out (middle_rows h f) (with_rest e o n₁) (e + m₁)
     middle = wrote_more p (omega (arith, p.end_is)) q

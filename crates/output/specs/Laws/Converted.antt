@@ -1,9 +1,8 @@
 -- A typed text turned into its sheet: what the writer gives for the words of an accepted text, and the listing of a refusal. Assumes nothing.
 use Rattle.std.specs.Prelude.{ℕ, ◌≤◌, ◌<◌, true, List, ◌≡◌, refl, is_ok, unwrap_or, Result, Ok, Err}
-use Rattle.std.proofs.Common.{arith, ◌∙◌}
+use Rattle.std.proofs.Common.{arith, le-leb, le-ltb, ◌∙◌}
 use Rattle.std.proofs.Math.Path.{ap}
 use Rattle.std.proofs.Math.ListN.{length}
-use borrow.Author.Tests.{le-leb, le-ltb}
 use Rattle.scope.specs.Sheet.{Sheet, field_count, sheet_bytes, Valid}
 use Rattle.scope.specs.Causes.{Read, accepted, refused, most_bytes}
 use Rattle.scope.specs.Words.{held}

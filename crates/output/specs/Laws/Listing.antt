@@ -16,8 +16,8 @@ use Rattle.words.specs.declared.refusal.Refusal.{Refusal}
 use Rattle.words.specs.declared.refusal.Refusal.TheVariants.{Length, Malformed, Order, Range, Limit, Fields, Count, NoPlan, NoRoom, HighPlan, HighPattern, Illegal, TooShort}
 use Rattle.words.specs.Refusals.{number_of}
 use Rattle.words.specs.Told.{told}
-use Rattle.listing.specs.declared.shown.Head.{Head}
-use Rattle.listing.specs.declared.shown.Found.{Found}
+use Rattle.circuit.specs.declared.planned.Planned.{Planned}
+use Rattle.listing.specs.declared.head.Head.{Head}
 use Rattle.listing.specs.Rows.{Wrote, Small}
 use Rattle.listing.specs.Listing.{listing_rows, row_count}
 use Rattle.listing.specs.Laws.Listing.{plan_few}
@@ -95,7 +95,7 @@ module _ (r : Read) (h : Source r) (o : Outcome) (l : List ℕ) (g : answer_from
 -- ---- the plan's rows are shown exactly if a plan was found
 
 -- of a valid sheet they are few
-pub rows_few : (f : Option Found) → IfSome f (λ f. Valid f.sheet.now) → (list : List ℕ) → row_count f list ≤ 2 + (most_switches + most_wishes) + length list
+pub rows_few : (f : Option Planned) → IfSome f (λ f. Valid f.sheet.now) → (list : List ℕ) → row_count f list ≤ 2 + (most_switches + most_wishes) + length list
 rows_few f v list = omega (arith, plan_few f v)
 
 pub refused_number : (c : Refusal) → number_of c ≢ 0

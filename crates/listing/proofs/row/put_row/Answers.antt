@@ -14,7 +14,7 @@ pub returns : goal.returns
 returns c =
     let xs = c.args.numbers in
     let ys = c.map.result in
-    let b : c.match-letter.put_line ≡ byte_of c.args.letter = search rules in
+    let b = c.from.ensures in
     let o : Number = record { minus = false; size = 0 } in
     let eaches : (i : ℕ) → i < 3 → number_from (get_or ys i o) ≡ plus (get_or xs i 0) = λ i h. let k = c.map.ensures.items.at i 0 o h in search rules in
     let e : numbers_from ys ≡ map plus xs = ext_get_or (plus 0) (numbers_from ys) (map plus xs) (length-map ys number_from ∙ c.map.ensures.items.long ∙ sym (length-map xs plus ∙ search rules)) (λ i h. get_or-map number_from ys i o ∙ eaches i (omega (arith, length-map ys number_from, c.map.ensures.items.long)) ∙ sym (get_or-map plus xs i 0)) in

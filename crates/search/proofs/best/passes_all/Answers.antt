@@ -9,5 +9,5 @@ use Rattle.search.proofs.best.passes_all.Goals as goal
 
 pub returns : goal.returns
 returns c =
-    all_from_yields_List (passes c.args.sheet.now c.args.plan.0) _ _ c.all.result c.all.ensures.ran (YieldsList-from_slice c.args.list.now c.iter.ensures.rest) (λ x b q k. search (rules, tests))
-    ∙ all_passed (task c.args.sheet.now) c.args.plan.0 c.args.list.now
+    all_from_yields_List (passes c.args.planned.sheet.now c.args.planned.plan.0) _ _ c.all.result c.all.ensures.ran (YieldsList-from_slice c.args.list.now c.iter.ensures.rest) (λ x b q k. search (rules, tests))
+    ∙ all_passed (task c.args.planned.sheet.now) c.args.planned.plan.0 c.args.list.now

@@ -1,7 +1,0 @@
--- The rules before i are true.
-use Rattle.std.proofs.Common.{◌≡◌, ℕ, ◌<◌, get_or, true}
-use Rattle.scope.specs.Meaning.{truth}
-use Rattle.circuit.proofs.rule.passes.Given as goal
-
-abbrev pub invariant-loop-i : goal.invariant-loop-i
-invariant-loop-i l = (k : ℕ) → k < l.i → truth l.sheet l.plan.0 l.pattern.0 (get_or l.sheet.rules k 0) ≡ true
