@@ -29,7 +29,8 @@ impl Display for Failure {
 }
 
 // Fills the buffer from the input, as far as that goes. An input whose reading failed is none, however many bytes came
-// before. The library's own loops of this kind fill a `Vec`, or tell of no count where the input ends early.
+// before. The library's own loops of this kind fill a `Vec`, and there is no heap, or tell of no count where the input
+// ends early.
 pub fn read_input<R: Read>(input: &mut R, buf: &mut [u8]) -> io::Result<usize>
     ensures bound { ReadsAtMost result buf.new }
     ensures bytes { IfOk result (IsInput (R.remaining input.old) buf.new) }
@@ -62,8 +63,9 @@ pub fn transform<R: Read, W: Write, F: Fn(&[u8], &mut [u8]) -> usize>(
     output.write_all(&out[..m]).map_err(|_| Failure::Unwritten)
 }
 
-// A program: this from standard input to standard output, of a host that a program alone is handed. A line for people tells of a failure; that it cannot be written
-// is nothing that anybody could be told.
+// A program: this from standard input to standard output, of a host that a program alone is handed. A line for people tells of
+// a failure; that it cannot be written is nothing that anybody could be told. It promises nothing, as no contract knows the
+// bytes of standard input and output; what can be said is said of `transform`, and the programs are tested.
 pub fn run<F: Fn(&[u8], &mut [u8]) -> usize>(
     rt: &HostRuntime,
     bytes: &mut [u8],
