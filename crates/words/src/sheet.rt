@@ -13,6 +13,8 @@ use crate::wish::{Wish, wish_at};
 use std::marker::Model;
 
 // Gate i of words that hold a valid sheet, counted from 0. (Not of a `Sheet`, for the writer, who has lent words.)
+// Inlined, as the truth of a point asks for a gate each time: with a call, Answer on trees takes a quarter longer.
+#[inline(always)]
 pub fn valid_gate(words: &Words, i: usize) -> Gate
     requires valid { Valid (held words.now) }
     requires listed { i < length (held words.now).gates }
