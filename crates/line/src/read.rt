@@ -9,7 +9,8 @@ use crate::line::Line;
 use field::{FIELD_SIZE, Malformed, Number, field_at};
 use words::byte::FEED;
 
-// The N fields and the line feed, up to the first byte that fits nothing.
+// The N fields and the line feed, up to the first byte that fits nothing. An error is told by a match, here and below: with `map_err(..)?`
+// reading a full sheet misses its bar.
 fn fields_at<const N: usize>(bytes: &[u8]) -> Result<[Number; N], Malformed>
     requires { length bytes.now ≡ N * field_size + 1 }
     ensures { FieldsRead N bytes.now result }
@@ -17,9 +18,14 @@ fn fields_at<const N: usize>(bytes: &[u8]) -> Result<[Number; N], Malformed>
     let mut numbers = [Number::from(0); N];
     for (i, number) in numbers.iter_mut().enumerate() {
         let at = i * FIELD_SIZE;
-        *number = field_at(&bytes[at..at + FIELD_SIZE]).map_err(|stop| Malformed {
-            column: at + stop.column,
-        })?;
+        *number = match field_at(&bytes[at..at + FIELD_SIZE]) {
+            Ok(x) => x,
+            Err(stop) => {
+                return Err(Malformed {
+                    column: at + stop.column,
+                });
+            }
+        };
     }
     let end = N * FIELD_SIZE;
     if bytes[end] != FEED {
@@ -36,8 +42,10 @@ pub fn line_at<const N: usize>(bytes: &[u8]) -> Result<Line<N>, Malformed>
     let fields = fields_at(&bytes[1..]);
     // after the fields, so that the machine code decides on the letter once
     let letter = Letter::try_from(bytes[0])?;
-    let numbers = fields.map_err(|stop| Malformed {
-        column: stop.column + 1,
-    })?;
-    Ok(Line { letter, numbers })
+    match fields {
+        Ok(numbers) => Ok(Line { letter, numbers }),
+        Err(stop) => Err(Malformed {
+            column: stop.column + 1,
+        }),
+    }
 }
