@@ -11,6 +11,7 @@ use words::Plan;
 use words::refusal::{Cause, Refusal};
 use words::sheet::Sheet;
 
+// Sheet and plan apart, since the plan is a caller's, and may be too high.
 pub fn rate(sheet: &Sheet, plan: Plan) -> Result<Rating, Cause>
     ensures { rating_of result ≡ jobs.rating_of (accepted sheet.now) plan.0 }
 {

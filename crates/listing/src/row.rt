@@ -33,6 +33,7 @@ impl From<Letter> for u8 {
     }
 }
 
+// Puts a row at the beginning of what is lent: by `put_line`, and no `Display`, as there is no heap.
 pub fn put_row(out: &mut [u8], letter: Letter, numbers: [u32; ROW_FIELDS]) -> usize
     requires room { row_size ≤ length out.old }
     requires small { Small numbers }

@@ -1,6 +1,7 @@
 // The reader of typed texts: it stands at a place, and moves on past what is asked for there. The papers ask for this struct and for thin
-// functions over a plain slice and a number: the work is in `byte_at` and `same_bytes`, and callers use `look`, `past_byte`, `past_word`
-// and `skip`. So a text and a place are two parameters here and in the crates above, and that the place is in the text is asked for there.
+// functions over a plain slice and a number: the work is in `byte_at` and `same_bytes`, and callers use `look`, `next_is`, `past_byte`,
+// `past_word` and `skip`. So a text and a place are two parameters here and in the crates above, and that the place is in the text is asked for
+// there: a `Reader` that has this fact would be made at each call.
 ghost use Rattle.std.specs.Prelude.{[], ◌∷◌, ◌≡◌, ◌+◌, ◌<◌, ◌^◌, eqb};
 ghost use Rattle.scanner.specs.Look as specs;
 

@@ -49,8 +49,8 @@ fn rule_line(s: &[u8], l: Lines, c: Points, words: &mut Words) -> Result<Lines, 
     Ok(with_rule(l, p))
 }
 
-// All rule lines. (One loop for rules and wishes would need a trait whose ghost members say what a line of each promises: longer than
-// the two loops.)
+// All rule lines. (One loop for rules and wishes would need a closure, or a trait whose ghost members say what a line of each promises:
+// longer than the two loops.)
 pub fn rule_lines(s: &[u8], head: Lines, c: Points, words: &mut Words) -> Result<Lines, Stuck>
     requires { RulesTold s.now c head words.old }
     ensures { RulesRead s.now c result words.new × NoMore s.now rule_letter result }
