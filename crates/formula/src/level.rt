@@ -58,7 +58,7 @@ fn goes_deeper(b: Option<u8>) -> bool
 
 // Nots and brackets together are at most `depth` deep; so many gates stand before it, here and below. (Points, gates and words are no
 // struct: the number of gates grows from operand to operand, and of a struct that is lent each promise would say too that the points stay.
-// So what is asked of text, place and gates, `Asked`, is asked by each level, too.)
+// So each level asks for what is asked of text, place and gates, `Asked`.)
 #[cycle(and_level_factor_or_level)]
 fn factor(
     s: &[u8],

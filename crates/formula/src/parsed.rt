@@ -22,7 +22,8 @@ pub struct Parsed {
 
 impl Parsed {
     // With one more gate, at the point after all others. (No `Counts`: `Points` are small, so that the sum is a `u32`, and the gates of
-    // a text go on where those of the words stop. That the gates are few is no invariant: it would have to be shown of one gate more before the text says so.)
+    // a text go on where those of the words stop. That the gates are few is no invariant: it would have to be shown of one gate more
+    // before the text says so.)
     pub fn with_gate(self, gate: Gate, known: bool, c: Points, sheet: &mut Words) -> Parsed
         requires { self.gates ≤ most_text }
         ensures { Gated c (gate_from gate) known self result sheet.old sheet.new }

@@ -1,6 +1,6 @@
 // The jobs over a valid sheet: Answer, Short run, Rating, and the three calls of demand 3. Each promise is an equation with the job of
-// the crate `scope`. For a cause the same outcomes are made without a run (`Outcome::refused`, `PairRuns::refused`). It rests on `circuit` and
-// `search` for what a plan means and which one is best, and on `words`.
+// the crate `scope`. For a cause the same outcomes are made without a run (`Outcome::refused`, `PairRuns::refused`). It rests on
+// `circuit` and `search` for what a plan means and which one is best, and on `words`.
 #![tactic(auto)]
 
 pub mod answer;

@@ -30,7 +30,8 @@ fn put_fields(out: &mut [u8], numbers: &[Number])
     }
 }
 
-// Puts a line into its bytes; no `Display`, as a buffer is lent. The letter is a byte, and no `Line` is taken, since the rows of listings have letters of their own.
+// Puts a line into its bytes; no `Display`, as a buffer is lent. The letter is a byte, and no `Line` is taken, since the rows of listings
+// have letters of their own.
 pub fn put_line(out: &mut [u8], letter: u8, numbers: &[Number])
     requires fit { Fit (numbers_from numbers.now) }
     requires whole { length out.old ≡ line_size (length numbers.now) }

@@ -1,7 +1,7 @@
 // The reader of typed texts: it stands at a place, and moves on past what is asked for there. The papers ask for this struct and for thin
 // functions over a plain slice and a number: the work is in `byte_at` and `same_bytes`, and callers use `look`, `next_is`, `past_byte`,
-// `past_word` and `skip`. So a text and a place are two parameters here and in the crates above, and that the place is in the text is asked for
-// there: a `Reader` that has this fact would be made at each call.
+// `past_word` and `skip`. So a text and a place are two parameters here and in the crates above, and that the place is in the text is
+// asked for there: a `Reader` that has this fact would be made at each call.
 ghost use Rattle.std.specs.Prelude.{[], ◌∷◌, ◌≡◌, ◌+◌, ◌<◌, ◌^◌, eqb};
 ghost use Rattle.scanner.specs.Look as specs;
 
@@ -31,8 +31,8 @@ pub fn next_is(text: &[u8], at: usize, b: u8) -> bool
     byte_at(text, at) == Some(b)
 }
 
-// How many bytes of a word stand from there on; the place past them is a number. (By
-// `position`, its closure would not know that `at + i` fits, which follows from the bytes before having stood there.)
+// How many bytes of a word stand from there on; the place past them is a number. (By `position`, the closure would not know that
+// `at + i` fits, which follows from the bytes before having stood there.)
 fn same_bytes(text: &[u8], at: usize, word: &[u8]) -> usize
     ensures value { result ≡ specs.standing text.now at word.now }
     ensures fits { at + result < 2 ^ 64 }

@@ -29,16 +29,12 @@ pub fn word_at(s: &[u8], at: usize, word: &[u8]) -> Result<usize, Stuck>
     Ok(end)
 }
 
-// The digit that stands there, if one does. (By `then`, the closure would not know that it is one.)
+// The digit that stands there, if one does.
 fn digit_at(s: &[u8], at: usize) -> Option<u32>
     ensures { result ≡ specs.digit s.now at }
 {
     let b = look(s, at)?;
-    if b.is_ascii_digit() {
-        Some(u32::from(b - ZERO))
-    } else {
-        None
-    }
+    b.is_ascii_digit().then(|| u32::from(b - ZERO))
 }
 
 // A number from `at` on, with one or two digits and no leading zero; whether it may be 0. (`parse` takes any digits. A flag, as in the
