@@ -135,7 +135,7 @@ pub fn read<'a>(input: impl Into<Input<'a>>) -> Result<Tables, Refusal> {
 
 /// The tables, or the refusal.
 fn read_sheet(bytes: &[u8]) -> Result<Tables, Refusal> {
-    if bytes.is_empty() || bytes.len() % LINE != 0 || bytes.len() > MAX_LINES * LINE {
+    if bytes.is_empty() || !bytes.len().is_multiple_of(LINE) || bytes.len() > MAX_LINES * LINE {
         return Err((1, 0, 0));
     }
     let lines = bytes.len() / LINE;

@@ -221,11 +221,11 @@ impl Parser<'_> {
     fn wish(&mut self) -> Result<(), Wrong> {
         self.word(b"wish ")?;
         let mut wish = [self.literal()?, 0, 0];
-        for k in 1..3 {
+        for literal in &mut wish[1..] {
             if !self.space() {
                 break;
             }
-            wish[k] = self.literal()?;
+            *literal = self.literal()?;
         }
         self.expect(b'\n')?;
         if self.tables.wishes.len() < MAX_WISHES {
