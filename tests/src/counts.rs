@@ -13,6 +13,9 @@ pub const TABLES: u64 = 80_000;
 /// Inputs of each program, and those with long lists of each that answers.
 pub const RUNS: u64 = 1_500;
 pub const LONG_LISTS: u64 = 8;
+/// Smaller cases that are tried of one that fails, at most, and the seconds after which no further one is.
+pub const SMALLER: u64 = 20_000;
+pub const SHRINK_SECONDS: u64 = 20;
 
 #[cfg(test)]
 mod tests {
@@ -44,6 +47,7 @@ mod tests {
         let [sheets, texts, limits, tables] = [SHEETS, TEXTS, LIMITS, TABLES].map(said);
         let [read_sheets, read_texts] = [READ_SHEETS, READ_TEXTS].map(said);
         let [runs, long] = [RUNS, LONG_LISTS].map(said);
+        let [smaller, seconds] = [SMALLER, SHRINK_SECONDS].map(said);
         let library = format!("{sheets} sheets and {texts} typed texts");
         for paper in [README, CLAIMS] {
             let at_the_limits = format!("{library}, and {limits} of each at the limits");
@@ -57,6 +61,7 @@ mod tests {
             format!("| {read_sheets} sheets and {read_texts} texts, whole"),
             format!("| {tables} tables, right and damaged"),
             format!("| {runs} sheets or texts through each program, and {long} with long lists"),
+            format!("At most {smaller} smaller cases are tried, and none after {seconds} seconds"),
         ] {
             assert!(says(OWN, &text), "{text}");
         }

@@ -9,14 +9,14 @@ use std::iter::successors;
 use std::ops::Range;
 use std::time::{Duration, Instant};
 
+use crate::counts::{SHRINK_SECONDS, SMALLER};
 use crate::form::Form;
 use crate::oracle::{self, Sheet, LINE};
 use crate::tables::Tables;
 use crate::writing;
 
-/// The most smaller cases that are tried, and the longest time that this may take.
-const MOST_TRIED: usize = 20_000;
-const LONGEST: Duration = Duration::from_secs(20);
+/// The time after which no further case is tried.
+const LONGEST: Duration = Duration::from_secs(SHRINK_SECONDS);
 
 /// A case that can be made smaller in single steps.
 pub trait Shrink: Sized {
@@ -33,13 +33,13 @@ pub fn shrunk<T: Shrink>(mut case: T, fails: impl Fn(&T) -> bool) -> T {
     loop {
         let in_bounds = |_: &(usize, T)| {
             tried += 1;
-            tried <= MOST_TRIED && Instant::now() < end
+            tried <= SMALLER && Instant::now() < end
         };
         let smaller = case.smaller().enumerate().skip(from);
         let found = smaller.take_while(in_bounds).find(|(_, next)| fails(next));
         match found {
             Some((at, next)) => (from, case) = (at, next),
-            None if from == 0 || tried > MOST_TRIED || Instant::now() >= end => return case,
+            None if from == 0 || tried > SMALLER || Instant::now() >= end => return case,
             None => from = 0,
         }
     }
