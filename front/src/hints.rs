@@ -26,7 +26,7 @@ const HINTS: [Hint; 11] = [
     Hint {
         applies: is_sheet_for_text,
         words: "This looks like a planning sheet, and is taken as a typed text, \
-                by an option or by a name that ends in .text: use --sheet.",
+                by --typed, --as-sheet or a name that ends in .text: use --sheet instead.",
     },
     Hint {
         applies: has_byte_order_mark,
