@@ -1,10 +1,10 @@
 -- What is claimed of the definitions, each claim with its proof. Assumes nothing.
-use Rattle.std.specs.Prelude.{ℕ, ◌+◌, ◌-◌, ◌≤◌, ◌<◌, true, false, cond, ◌↔◌, ◌≢◌, ◌≡◌, refl, length, get_or, take}
-use Rattle.std.proofs.Common.{arith, ap, ◌∙◌}
+use Rattle.std.specs.Prelude.{ℕ, ◌+◌, ◌-◌, ◌*◌, ◌≤◌, ◌<◌, true, false, cond, ◌↔◌, ◌≢◌, ◌≡◌, refl, length, get_or, take}
+use Rattle.std.proofs.Common.{ap, ◌∙◌}
 use mathlib.Core.List.{List, [], ◌∷◌, ◌++◌, map, Memᴰ, Perm}
 use Rattle.std.proofs.Math.Option.{none, some}
-use Rattle.scope.specs.Sheet.{Number, number, field, fits, Line, Clause, Gate, Sheet, sheet, sheet_bytes, field_count, All, Valid}
-use Rattle.scope.specs.Causes.{Read, accepted, refused, line_size, most_bytes, Met}
+use Rattle.scope.specs.Sheet.{Number, number, field, fits, Line, Clause, Gate, Wish, Sheet, sheet, Layout, weighted, sheet_bytes, most_wishes, most_weight, All, Valid, Sayable}
+use Rattle.scope.specs.Causes.{Read, accepted, refused, line_size, Met}
 use Rattle.scope.specs.Sheets.{Printed, Begins, SheetRead, SheetRefusal}
 use Rattle.scope.specs.Sheets as sheets
 use Rattle.scope.specs.Reading.{field_of, line_of, column_of, read}
@@ -21,7 +21,7 @@ use Rattle.scope.specs.Pick.{Better}
 use Rattle.scope.specs.Rule.{Verdict, best, whole}
 use Rattle.scope.specs.Jobs.{over, task, Result, Answer, answer_of, IsAnswer, short_of, IsShortRun, Rating, rating_of, IsRating}
 use Rattle.scope.specs.Demands.{list, listed, Ending, Demand1, Demand2, Demand3, ShortRun, Rates}
-use Rattle.scope.specs.Program.{output_rows, ListingResult, converted, IsConverted}
+use Rattle.scope.specs.Program.{output_rows, ListingResult, most_sheet, converted, IsConverted}
 use Rattle.scope.proofs.Laws.Given as given
 use Rattle.scope.proofs.Laws.Fields as fields
 use Rattle.scope.proofs.Laws.Lines as lines
@@ -61,19 +61,19 @@ pub no_column : (n : ℕ) (s : List ℕ) → line_size n ≤ length s → (colum
 no_column = beginnings.column_none
 
 -- what is read from a sheet is what SheetRead says: the valid sheet that was printed, or the first cause to turn it down
-pub sheet_read : (n : ℕ) → 3 ≤ n → (s : List ℕ) (r : Read) → (read n s ≡ r) ↔ SheetRead n s r
+pub sheet_read : (y : Layout) (s : List ℕ) (r : Read) → (read y s ≡ r) ↔ SheetRead y s r
 sheet_read = sheetReads.sheet_iff
 
 -- so what is read is fixed, and with it what a promise over it gives
-pub sheet_gives : {B : Type 0} (s : List ℕ) (f : Read → B) (b : B) → (b ≡ f (read field_count s)) ↔ Gives (SheetRead field_count s) f b
-sheet_gives s = given.given_iff (SheetRead field_count s) (read field_count s) (sheet_read field_count (omega arith) s)
+pub sheet_gives : {B : Type 0} (y : Layout) (s : List ℕ) (f : Read → B) (b : B) → (b ≡ f (read y s)) ↔ Gives (SheetRead y s) f b
+sheet_gives y s = given.given_iff (SheetRead y s) (read y s) (sheet_read y s)
 
--- two valid sheets that are printed alike are the same
-pub sheet_printed_once : (n : ℕ) → 3 ≤ n → (t u : Sheet) → Valid t → Valid u → sheet_bytes n t ≡ sheet_bytes n u → t ≡ u
+-- two valid sheets that a layout can say, and that are printed alike in it, are the same
+pub sheet_printed_once : (y : Layout) (t u : Sheet) → Valid t → Valid u → Sayable y t.wishes → Sayable y u.wishes → sheet_bytes y t ≡ sheet_bytes y u → t ≡ u
 sheet_printed_once = inverse.printed_once
 
--- it is refused by one of the numbers 1 to 7; 4 names line 1, and 2 alone has a column, one of its line's
-pub sheet_refusal : (n : ℕ) (s : List ℕ) {c place column : ℕ} → SheetRead n s (refused c place column) → SheetRefusal n c place column
+-- it is refused by one of the numbers 1 to 7, or by 14 where weights are written; 4 names line 1, and 2 alone has a column, one of its line's
+pub sheet_refusal : (y : Layout) (s : List ℕ) {c place column : ℕ} → SheetRead y s (refused c place column) → SheetRefusal y c place column
 sheet_refusal = sheetReads.refusal_number
 
 -- ---- plans
@@ -92,16 +92,20 @@ pub none_kept : (t : Sheet) (plan : ℕ) → kept t plan [] ≡ false
 unfolding kept
 none_kept t plan = wishes.none_kept (switch_on t plan)
 
--- a broken wish costs 1, and wishes cost together what they cost apart: so one that is repeated counts every time
-pub wish_costs : (a f : ℕ) (gs : List Gate) (rs : List ℕ) (plan : ℕ) (w : Clause) → costs a f gs rs plan (w ∷ []) ≡ cond (kept (sheet a f gs rs []) plan w) 0 1
+-- a broken wish costs its weight, and wishes cost together what they cost apart: so one that is repeated counts every time
+pub wish_costs : (a f : ℕ) (gs : List Gate) (rs : List ℕ) (plan : ℕ) (w : Wish) → costs a f gs rs plan (w ∷ []) ≡ cond (kept (sheet a f gs rs []) plan w.clause) 0 w.weight
 wish_costs = wishes.cost_one
 
-pub wishes_cost : (a f : ℕ) (gs : List Gate) (rs : List ℕ) (plan : ℕ) (us ws : List Clause) → costs a f gs rs plan (us ++ ws) ≡ costs a f gs rs plan us + costs a f gs rs plan ws
+pub wishes_cost : (a f : ℕ) (gs : List Gate) (rs : List ℕ) (plan : ℕ) (us ws : List Wish) → costs a f gs rs plan (us ++ ws) ≡ costs a f gs rs plan us + costs a f gs rs plan ws
 wishes_cost = wishes.cost_together
 
 -- the order of wishes does not count
-pub order_free : (a f : ℕ) (gs : List Gate) (rs : List ℕ) (plan : ℕ) (ws us : List Clause) → Perm ws us → costs a f gs rs plan ws ≡ costs a f gs rs plan us
+pub order_free : (a f : ℕ) (gs : List Gate) (rs : List ℕ) (plan : ℕ) (ws us : List Wish) → Perm ws us → costs a f gs rs plan ws ≡ costs a f gs rs plan us
 order_free = wishes.cost_order
+
+-- a plan of a valid sheet costs at most 63,936
+pub cost_bounded : (t : Sheet) → Valid t → (plan : ℕ) → cost t plan ≤ most_wishes * most_weight
+cost_bounded = wishes.cost_small
 
 pub rating_claim : (r : Read) (p : ℕ) (t : Sheet) → r ≡ accepted t → p < plans t → Rates t p (rating_of r p)
 rating_claim = demands.rating_right
@@ -119,7 +123,7 @@ text_gives s = given.given_iff (TextRead s) (read_text s) (text_read s)
 pub text_once : (v w : Typed) (s : List ℕ) → Legal v s → Legal w s → v ≡ w
 text_once = walked.legal_once
 
--- it is refused by 12, by 4 on line 1 or 2, or by 5 or 6 on a line after them; 1, 2, 3 and 7 are not for texts
+-- it is refused by 12, by 4 on line 1 or 2, or by 5, 6 or 14 on a line after them; 1, 2, 3 and 7 are not for texts
 pub text_refusal : (s : List ℕ) {c place column : ℕ} → TextRead s (refused c place column) → TextRefusal c place column
 text_refusal s = typedSheets.refusal_number
 
@@ -136,7 +140,7 @@ pub passes_as_written : (v : Typed) (s : List ℕ) → Legal v s → All Met (li
 passes_as_written v s l m = typedTruths.passes_written v (typedSheets.rules_on_sheet v s l m)
 
 -- each wish is kept exactly if one of its literals is true, as it is written
-pub wishes_as_written : (v : Typed) (plan : ℕ) → map (kept (sheet_of v) plan) (sheet_of v).wishes ≡ map (λ w. any w (literal_true (switch_on (sheet_of v) plan))) v.wishes
+pub wishes_as_written : (v : Typed) (plan : ℕ) → map (λ w. kept (sheet_of v) plan w.clause) (sheet_of v).wishes ≡ map (λ w. any w.clause (literal_true (switch_on (sheet_of v) plan))) v.wishes
 wishes_as_written = typedTruths.wishes_written
 
 -- ---- tables as words
@@ -167,48 +171,48 @@ read_filled x lent b g = rw g.given (filling.accepted_words x g.read lent g.is_r
 -- ---- writing
 
 -- what is read from tables is what TablesRead says: the valid sheet that they hold, or their first line at fault
-pub tables_read : (n : ℕ) → 3 ≤ n → (u : List ℕ) (r : Read) → (read_tables n (held u) ≡ r) ↔ TablesRead n (held u) r
+pub tables_read : (u : List ℕ) (r : Read) → (read_tables (held u) ≡ r) ↔ TablesRead (held u) r
 tables_read = tableReads.tables_iff
 
-pub tables_give : {B : Type 0} (n : ℕ) → 3 ≤ n → (u : List ℕ) (f : Read → B) (b : B) → (b ≡ f (read_tables n (held u))) ↔ Gives (TablesRead n (held u)) f b
-tables_give n wide u = given.given_iff (TablesRead n (held u)) (read_tables n (held u)) (tables_read n wide u)
+pub tables_give : {B : Type 0} (u : List ℕ) (f : Read → B) (b : B) → (b ≡ f (read_tables (held u))) ↔ Gives (TablesRead (held u)) f b
+tables_give u = given.given_iff (TablesRead (held u)) (read_tables (held u)) (tables_read u)
 
--- they are refused by 4, 5 or 6, and 4 names line 1
-pub tables_refusal : (n : ℕ) (t : Sheet) {c place column : ℕ} → TablesRead n t (refused c place column) → TablesRefusal c place column
+-- they are refused by 4, 5, 6 or 14, and 4 names line 1
+pub tables_refusal : (t : Sheet) {c place column : ℕ} → TablesRead t (refused c place column) → TablesRefusal c place column
 tables_refusal = tableReads.refusal_number
 
-module _ (n : ℕ) (u out : List ℕ) (w : WriteResult) (is : IsWritten n u out w) where
+module _ (u out : List ℕ) (w : WriteResult) (is : IsWritten u out w) where
   -- a refusal returns the length 0 and changes no byte of the buffer
   pub write_refused : w.number ≢ 0 → (w.length ≡ 0) × (w.buffer ≡ out)
-  write_refused = rw is.given (tableReads.refused_kept n is.read out)
+  write_refused = rw is.given (tableReads.refused_kept is.read out)
 
   -- 13 comes last: exactly if the tables hold a valid sheet, and the buffer is shorter
-  pub write_room : 3 ≤ n → (w.number ≡ 13) ↔ (Valid (held u) × (length out < length (sheet_bytes n (held u))))
-  write_room wide = rw is.given (tableReads.no_room n (held u) out is.is_read, tableReads.left_out_of n (held u) out wide is.is_read)
+  pub write_room : (w.number ≡ 13) ↔ (Valid (held u) × (length out < length (sheet_bytes weighted (held u))))
+  write_room = rw is.given (tableReads.no_room (held u) out is.is_read, tableReads.left_out_of (held u) out is.is_read)
 
   -- reading a written sheet gives the sheet that the tables hold
-  pub written_read : w.number ≡ 0 → SheetRead n (take w.length w.buffer) (accepted (held u))
+  pub written_read : w.number ≡ 0 → SheetRead weighted (take w.length w.buffer) (accepted (held u))
   written_read e =
-      let (v, s) = tableReads.written_sheet n (held u) out is.is_read (rw is.given at e) in
-      sheets.accepted {t = held u} (rw is.given s) v
+      let (v, s) = tableReads.written_sheet (held u) out is.is_read (rw is.given at e) in
+      sheets.accepted {t = held u} (rw is.given s) v tt
 
   -- and so, into words, those tables up to their counts (`words_kept`)
-  pub written_filled : w.number ≡ 0 → (lent : List ℕ) → IsRead (SheetRead n (take w.length w.buffer)) lent (read_result 0 0 0 (words_of (held u)))
+  pub written_filled : w.number ≡ 0 → (lent : List ℕ) → IsRead (SheetRead weighted (take w.length w.buffer)) lent (read_result 0 0 0 (words_of (held u)))
   written_filled e lent = record { read = accepted (held u); is_read = written_read e; given = refl }
 
 -- writing the tables of an accepted sheet, where there is room, gives that sheet, byte for byte
-pub read_written : (n : ℕ) (s : List ℕ) (t : Sheet) → SheetRead n s (accepted t) → (u : List ℕ) → held u ≡ t → (out : List ℕ) → length s ≤ length out → IsWritten n u out (written 0 0 0 (length s) (over s out))
+pub read_written : (s : List ℕ) (t : Sheet) → SheetRead weighted s (accepted t) → (u : List ℕ) → held u ≡ t → (out : List ℕ) → length s ≤ length out → IsWritten u out (written 0 0 0 (length s) (over s out))
 read_written = filling.sheet_written
 
 -- and so does writing the words that it was read into
-pub filled_written : (s lent : List ℕ) (b : ReadResult) → IsRead (SheetRead field_count s) lent b → b.number ≡ 0 → (out : List ℕ) → length s ≤ length out → IsWritten field_count b.tables out (written 0 0 0 (length s) (over s out))
+pub filled_written : (s lent : List ℕ) (b : ReadResult) → IsRead (SheetRead weighted s) lent b → b.number ≡ 0 → (out : List ℕ) → length s ≤ length out → IsWritten b.tables out (written 0 0 0 (length s) (over s out))
 filled_written s lent b g e out room =
     let (t, h, i) = read_filled (Form.sheet s) lent b g e in
-    read_written field_count s t h b.tables (ap held i ∙ words_hold t ((forms.form_source (Form.sheet s) (accepted t) h).valid t refl)) out room
+    read_written s t h b.tables (ap held i ∙ words_hold t ((forms.form_source (Form.sheet s) (accepted t) h).valid t refl)) out room
 
 -- ---- the demands
 
-pub demand1 : (s lent : List ℕ) (a : Answer) → IsAnswer (SheetRead field_count s) lent a → Demand1 s lent a
+pub demand1 : (s lent : List ℕ) (a : Answer) → IsAnswer (SheetRead weighted s) lent a → Demand1 s lent a
 demand1 s lent a g = rw g.given (demands.demand1 s lent g.read g.is_read)
 
 pub demand2 : (r : Read) (lent : List ℕ) (t : Sheet) → r ≡ accepted t → Demand2 t lent (answer_of r lent)
@@ -256,11 +260,11 @@ pub output_fits : (r : Read) → Source r → All (λ r. All (λ x. fits x ≡ t
 output_fits = outputs.output_fits
 
 -- what a typed text is converted into is never longer than a sheet may be
-pub converted_fits : (r : Read) → Source r → length (converted r) ≤ most_bytes field_count
+pub converted_fits : (r : Read) → Source r → length (converted r) ≤ most_sheet
 converted_fits = conversion.converted_most
 
 -- and where the text is accepted, the sheet that is left in the buffer is read as the same
-pub converted_read : (s out : List ℕ) (b : ListingResult) → IsConverted (TextRead s) out b → most_bytes field_count ≤ length out → (t : Sheet) → TextRead s (accepted t) → SheetRead field_count (take b.length b.buffer) (accepted t)
+pub converted_read : (s out : List ℕ) (b : ListingResult) → IsConverted (TextRead s) out b → most_sheet ≤ length out → (t : Sheet) → TextRead s (accepted t) → SheetRead weighted (take b.length b.buffer) (accepted t)
 converted_read s out b g room t h =
     let e : g.read ≡ accepted t = forms.read_once (Form.text s) g.read (accepted t) g.is_read h in
-    sheets.accepted {t = t} (rw (g.given, e) (conversion.converted_sheet t out room)) ((forms.form_source (Form.text s) (accepted t) h).valid t refl)
+    sheets.accepted {t = t} (rw (g.given, e) (conversion.converted_sheet t out room)) ((forms.form_source (Form.text s) (accepted t) h).valid t refl) tt

@@ -1,6 +1,6 @@
 -- Demands 1, 2 and 3, and what Short run and Rating give, in plain quantifiers. Assumes nothing.
 use Rattle.std.specs.Prelude.{ℕ, ◌≤◌, ◌<◌, true, false, List, [], ◌↔◌, ◌≢◌, ◌⊎◌, ◌≡◌, length, get_or, take}
-use Rattle.scope.specs.Sheet.{Sheet, field_count}
+use Rattle.scope.specs.Sheet.{Sheet, weighted}
 use Rattle.scope.specs.Causes.{Read, accepted, refused}
 use Rattle.scope.specs.Sheets.{SheetRead, SheetRefusal}
 use Rattle.scope.specs.Meaning.{plans, patterns, passes, cost}
@@ -42,10 +42,10 @@ pub data Ending (R : Read → Type 0) (lent : List ℕ) : Answer → Type 0 wher
 
 -- of a sheet
 pub record Demand1 (s lent : List ℕ) (a : Answer) : Type 0 where
-  pub number : a.result.number ≤ 9
-  pub ending : Ending (SheetRead field_count s) lent a
-  -- 1 to 7, each with its place and column
-  pub refusal : 1 ≤ a.result.number → a.result.number ≤ 7 → SheetRefusal field_count a.result.number a.result.place a.result.column
+  pub number : (a.result.number ≤ 9) ⊎ (a.result.number ≡ 14)
+  pub ending : Ending (SheetRead weighted s) lent a
+  -- 1 to 7 and 14, each with its place and column
+  pub refusal : a.result.number ≢ 0 → a.result.number ≢ 8 → a.result.number ≢ 9 → SheetRefusal weighted a.result.number a.result.place a.result.column
 
 -- ---- demand 2: the answer is the best sound plan; with room, 8 exactly if there is none; the words are the list, or its beginning
 

@@ -1,6 +1,6 @@
 -- What a sheet means: the truth of points, when a plan passes a pattern, and what a plan costs. Assumes nothing.
-use Rattle.std.specs.Prelude.{ℕ, zero, suc, ◌-◌, ◌/◌, ◌%◌, ◌^◌, Bool, true, false, cond, not, ◌&&◌, ◌||◌, List, [], ◌∷◌, ◌++◌, eqb, get_or}
-use Rattle.scope.specs.Sheet.{Number, Clause, Gate, Sheet, sheet}
+use Rattle.std.specs.Prelude.{ℕ, zero, suc, ◌+◌, ◌-◌, ◌/◌, ◌%◌, ◌^◌, Bool, true, false, cond, not, ◌&&◌, ◌||◌, List, [], ◌∷◌, ◌++◌, eqb, get_or}
+use Rattle.scope.specs.Sheet.{Number, Clause, Gate, Wish, Sheet, sheet}
 
 -- the library's `all` and `any`, which do not compute outside of it
 abbrev pub all : {A : Type 0} → List A → (A → Bool) → Bool
@@ -40,10 +40,10 @@ literal_true v x = cond x.minus (not (v x.size)) (v x.size)
 unfoldable pub keeps : (ℕ → Bool) → Clause → Bool
 keeps v w = any w (literal_true v)
 
--- how many of these are broken, each counted every time it is written
-unfoldable pub broken : (ℕ → Bool) → List Clause → ℕ
+-- the weights of those that are broken, added up: the source's linear cost; each counts every time it is written
+unfoldable pub broken : (ℕ → Bool) → List Wish → ℕ
 broken v [] = 0
-broken v (w ∷ ws) = cond (keeps v w) (broken v ws) (suc (broken v ws))
+broken v (w ∷ ws) = cond (keeps v w.clause) 0 w.weight + broken v ws
 
 -- ---- a sheet
 module _ (t : Sheet) where
@@ -69,10 +69,10 @@ module _ (t : Sheet) where
   unfoldable pub kept : (plan : ℕ) → Clause → Bool
   kept plan = keeps (switch_on plan)
 
-  -- the broken wishes
+  -- the weight of the broken wishes
   unfoldable pub cost : (plan : ℕ) → ℕ
   cost plan = broken (switch_on plan) t.wishes
 
 -- what these wishes cost on a sheet with these switches, faults, gates and rules
-abbrev pub costs : (a f : ℕ) → List Gate → List ℕ → (plan : ℕ) → List Clause → ℕ
+abbrev pub costs : (a f : ℕ) → List Gate → List ℕ → (plan : ℕ) → List Wish → ℕ
 costs a f gs rs plan ws = cost (sheet a f gs rs ws) plan

@@ -3,7 +3,7 @@ use Rattle.std.specs.Prelude.{ℕ, suc, ◌+◌, ◌-◌, ◌*◌, Bool, true, f
 use Prim.Native.Char.{code}
 use Rattle.std.proofs.Math.Option.{Option, none, some}
 use Rattle.scope.specs.Text.{bytes}
-use Rattle.scope.specs.Sheet.{number, Clause, most_literals}
+use Rattle.scope.specs.Sheet.{number, Clause, Wish, wish as wishOf, most_literals}
 use Rattle.scope.specs.Causes.{Test, Read, accepted, refused}
 use Rattle.scope.specs.Reading.{first_fault, unless_fault, when}
 use Rattle.scope.specs.Typed.{Formula, Typed, typed, Level, ors, ands, factor, most_nested, most_text, line_tests, sheet_of}
@@ -36,22 +36,24 @@ pub data Slot : Type 0 where
   faults : ℕ → Slot
   switch fault : Around factor → Slot
   literal : Typed → Clause → Bool → Slot
+  weight : Typed → Clause → Slot
 
 pub data State : Type 0 where
   -- these bytes, and then more
   word : List ℕ → State → State
-  -- a number's first digit, and the second if there is one
+  -- a number's first digit, and the next if there is one
   digits : Slot → State
-  second : Slot → ℕ → State
+  further : Slot → ℕ → State
   -- a line after the lines of a typed sheet that has no wish yet, or has some
   rule_line wish_line : Typed → State
   -- an operand, which a space may precede or not
   spaced operand : Around factor → State
   -- a sign after an operand, which a space may precede or not
   after sign : Around ands → Formula → State
-  -- a literal of a wish, and what comes after it
+  -- a literal of a wish, what comes after it, and after a space there: one more literal, or the weight
   wish : Typed → Clause → State
   ended : Typed → Clause → State
+  another : Typed → Clause → State
 
 abbrev pub feed : List ℕ
 feed = code "\n" ∷ []
@@ -59,7 +61,7 @@ feed = code "\n" ∷ []
 abbrev pub add_rule : Typed → Formula → Typed
 add_rule v x = typed v.switches v.faults (v.rules ++ x ∷ []) v.wishes
 
-abbrev pub add_wish : Typed → Clause → Typed
+abbrev pub add_wish : Typed → Wish → Typed
 add_wish v w = typed v.switches v.faults v.rules (v.wishes ++ w ∷ [])
 
 -- an operand is complete, and with it the nots before it
@@ -75,6 +77,7 @@ number_done (faults a) n = word feed (rule_line (typed a n [] []))
 number_done (switch k) n = operand_done k (Formula.switch n)
 number_done (fault k) n = operand_done k (Formula.fault n)
 number_done (literal v w minus) n = ended v (w ++ number minus n ∷ [])
+number_done (weight v w) n = word feed (wish_line (add_wish v (wishOf w n)))
 
 -- a formula with those to its left, and what it is a part of then
 abbrev pub joined_or : Around ands → Formula → Formula
@@ -102,13 +105,33 @@ is_digit b = leb (code "0") b && leb b (code "9")
 abbrev pub digit_of : ℕ → ℕ
 digit_of b = b - code "0"
 
--- a number of switches or faults may be 0
+-- a number of switches or faults, and a weight, may be 0
 abbrev pub zero_ok : Slot → Bool
 zero_ok switches = true
 zero_ok (faults a) = true
 zero_ok (switch k) = false
 zero_ok (fault k) = false
 zero_ok (literal v w minus) = false
+zero_ok (weight v w) = true
+
+-- numbers below these have fewer digits than two, and than four
+abbrev pub two_digits : ℕ
+two_digits = 10
+
+abbrev pub four_digits : ℕ
+four_digits = 1000
+
+-- a number below this may have one more digit
+abbrev pub room : Slot → ℕ
+room switches = two_digits
+room (faults a) = two_digits
+room (switch k) = two_digits
+room (fault k) = two_digits
+room (literal v w minus) = two_digits
+room (weight v w) = four_digits
+
+unfoldable pub grown : Slot → ℕ → State
+grown slot n = cond (ltb n (room slot)) (further slot n) (number_done slot n)
 
 -- the state after the byte b, if b is the one asked for; otherwise what comes next in the list
 abbrev pub Arm : Type 0
@@ -127,24 +150,28 @@ operand_arms k = (code "s", some (digits (switch k))) ∷ (code "f", some (digit
 abbrev pub sign_arms : Around ands → Formula → List Arm
 sign_arms a x = (code "&", some (spaced (amp x a))) ∷ (code "|", some (spaced (head (bar (joined_or a x) (outside a))))) ∷ (code ")", closed (outside a) (joined_or a x)) ∷ []
 
+abbrev pub literal_arms : Typed → Clause → List Arm
+literal_arms v w = (code "s", some (digits (Slot.literal v w false))) ∷ (code "!", some (word (bytes "s") (digits (Slot.literal v w true)))) ∷ []
+
 unfoldable pub move : State → ℕ → Option State
 move (word [] st) b = none
 move (word (c ∷ []) st) b = on b ((c, some st) ∷ [])
 move (word (c ∷ d ∷ s) st) b = on b ((c, some (word (d ∷ s) st)) ∷ [])
-move (digits slot) b = cond (eqb b (code "0")) (when (zero_ok slot) (number_done slot 0)) (when (is_digit b) (second slot (digit_of b)))
-move (second slot n) b = none
+move (digits slot) b = cond (eqb b (code "0")) (when (zero_ok slot) (number_done slot 0)) (when (is_digit b) (further slot (digit_of b)))
+move (further slot n) b = none
 move (rule_line v) b = on b ((code "r", some (word (bytes "ule ") (operand (head (first (line v)))))) ∷ (code "w", some (word (bytes "ish ") (wish v []))) ∷ [])
 move (wish_line v) b = on b ((code "w", some (word (bytes "ish ") (wish v []))) ∷ [])
 move (operand k) b = on b (operand_arms k)
 move (spaced k) b = on b ((code " ", some (operand k)) ∷ operand_arms k)
 move (sign a x) b = on b (sign_arms a x)
 move (after a x) b = on b ((code " ", some (sign a x)) ∷ (code "\n", fed (outside a) (joined_or a x)) ∷ sign_arms a x)
-move (wish v w) b = on b ((code "s", some (digits (literal v w false))) ∷ (code "!", some (word (bytes "s") (digits (literal v w true)))) ∷ [])
-move (ended v w) b = on b ((code " ", when (ltb (length w) most_literals) (wish v w)) ∷ (code "\n", some (wish_line (add_wish v w))) ∷ [])
+move (wish v w) b = on b (literal_arms v w)
+move (ended v w) b = on b ((code " ", some (another v w)) ∷ (code "\n", some (wish_line (add_wish v (wishOf w 1)))) ∷ [])
+move (another v w) b = on b ((code "w", some (word (bytes "eight ") (digits (Slot.weight v w)))) ∷ cond (ltb (length w) most_literals) (literal_arms v w) [])
 
--- a second digit, or what may come after the number
+-- one more digit, or what may come after the number
 unfoldable pub step : State → ℕ → Option State
-step (second slot n) b = cond (is_digit b) (some (number_done slot (n * 10 + digit_of b))) (move (number_done slot n) b)
+step (further slot n) b = cond (is_digit b) (some (grown slot (n * 10 + digit_of b))) (move (number_done slot n) b)
 step (word s st) b = move (word s st) b
 step (digits slot) b = move (digits slot) b
 step (rule_line v) b = move (rule_line v) b
@@ -155,6 +182,7 @@ step (sign a x) b = move (sign a x) b
 step (after a x) b = move (after a x) b
 step (wish v w) b = move (wish v w) b
 step (ended v w) b = move (ended v w) b
+step (another v w) b = move (another v w) b
 
 -- ---- the whole
 
@@ -169,13 +197,14 @@ at_end (rule_line v) = legal v
 at_end (wish_line v) = legal v
 at_end (word s st) = stuck 0
 at_end (digits slot) = stuck 0
-at_end (second slot n) = stuck 0
+at_end (further slot n) = stuck 0
 at_end (operand k) = stuck 0
 at_end (spaced k) = stuck 0
 at_end (sign a x) = stuck 0
 at_end (after a x) = stuck 0
 at_end (wish v w) = stuck 0
 at_end (ended v w) = stuck 0
+at_end (another v w) = stuck 0
 
 abbrev pub go_on : Option State → ℕ → (State → Outcome) → Outcome
 go_on none left more = stuck left

@@ -1,7 +1,7 @@
 -- What the programs write, as a function of what is read. Assumes nothing.
 use Rattle.std.specs.Prelude.{ℕ, suc, ◌+◌, ◌*◌, Bool, cond, List, [], ◌∷◌, ◌++◌, eqb, ltb, length, take, replicate}
 use Prim.Native.Char.{Char, code}
-use Rattle.scope.specs.Sheet.{Clause, Sheet, Number, plus, fields_bytes, sheet_bytes, field_count, most_switches, most_wishes}
+use Rattle.scope.specs.Sheet.{Wish, Sheet, Number, plus, fields_bytes, weighted, field_count, sheet_bytes, most_switches, most_wishes}
 use Rattle.scope.specs.Causes.{Read, accepted, refused, line_size, most_bytes}
 use Rattle.scope.specs.Source.{Gives}
 use Rattle.scope.specs.Meaning.{bits, kept}
@@ -9,7 +9,7 @@ use Rattle.scope.specs.Typed.{most_text}
 use Rattle.scope.specs.Jobs.{Result, Answer, over, answer_of}
 use Rattle.scope.specs.Demands.{listed}
 
--- a line of the first sheets' shape: a letter and three numbers
+-- a line of the plain layout's shape: a letter and three numbers
 abbrev pub output_fields : ℕ
 output_fields = 3
 
@@ -36,8 +36,8 @@ each f i (a ∷ s) = f i a ∷ each f (suc i) s
 abbrev pub switch_row : ℕ → Bool → Row
 switch_row i on = row "S" i (one on) 0
 
-abbrev pub wish_row : Sheet → (plan : ℕ) → ℕ → Clause → Row
-wish_row t plan i w = row "W" i (one (kept t plan w)) 0
+abbrev pub wish_row : Sheet → (plan : ℕ) → ℕ → Wish → Row
+wish_row t plan i w = row "W" i (one (kept t plan w.clause)) 0
 
 abbrev pub pattern_row : ℕ → ℕ → Row
 pattern_row i q = row "F" i q 0
@@ -74,8 +74,12 @@ output r = rows_bytes (output_rows r)
 
 -- ---- what a program reads of its input: up to one byte more than a sheet, or a typed text, may have
 
+-- the bytes of the longest sheet
+abbrev pub most_sheet : ℕ
+most_sheet = most_bytes (field_count weighted)
+
 abbrev pub sheet_input : List ℕ → List ℕ
-sheet_input input = take (suc (most_bytes field_count)) input
+sheet_input input = take (suc most_sheet) input
 
 abbrev pub text_input : List ℕ → List ℕ
 text_input input = take (suc most_text) input
@@ -109,11 +113,11 @@ IsListing R out b = Gives R (λ r. listing_of r out) b
 -- ---- a typed text as a sheet: the sheet that it stands for, or the listing of its refusal
 
 unfoldable pub converted : Read → List ℕ
-converted (accepted t) = sheet_bytes field_count t
+converted (accepted t) = sheet_bytes weighted t
 converted (refused c place column) = output (refused c place column)
 
 unfoldable pub converted_of : Read → List ℕ → ListingResult
-converted_of r out = placed (most_bytes field_count) (converted r) out
+converted_of r out = placed most_sheet (converted r) out
 
 -- b is what is returned and left in the buffer; R says what is read
 abbrev pub IsConverted : (R : Read → Type 0) → (out : List ℕ) → ListingResult → Type 0

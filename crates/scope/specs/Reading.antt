@@ -2,7 +2,7 @@
 use Rattle.std.specs.Prelude.{ℕ, zero, suc, ◌+◌, ◌-◌, ◌*◌, Bool, true, false, cond, not, ◌&&◌, ◌||◌, List, [], ◌∷◌, ◌++◌, eqb, length, take, drop, replicate, ◌≡◌}
 use Prim.Native.Char.{code}
 use Rattle.std.proofs.Math.Option.{Option, none, some, get_or}
-use Rattle.scope.specs.Sheet.{Number, number, plus, Sheet, field_size, field, fits, Letter, H, N, A, O, R, W, Z, letter_byte, Line, line, fields_bytes, line_bytes, All}
+use Rattle.scope.specs.Sheet.{Number, number, plus, Sheet, field_size, field, fits, Letter, H, N, A, O, R, W, Z, letter_byte, Line, line, fields_bytes, line_bytes, Layout, field_count, All}
 use Rattle.scope.specs.Causes.{Test, tests, started, make, Read, accepted, refused, length_ok, line_count, bytes_at, is_last}
 use Rattle.scope.specs.Pick.{smallest}
 
@@ -100,17 +100,17 @@ column_of n s = smallest (λ c. not (begins n (take c s))) (suc (length s))
 -- ---- the tests of a line, and what it adds
 
 -- 2: line malformed or letter unknown
-abbrev pub tests_of : Sheet → ℕ → Bool → Option Line → List Test
-tests_of t k last none = (2, false) ∷ []
-tests_of t k last (some l) = tests t k last l.letter l.fields
+abbrev pub tests_of : Layout → Sheet → ℕ → Bool → Option Line → List Test
+tests_of y t k last none = (2, false) ∷ []
+tests_of y t k last (some l) = tests y t k last l.letter l.fields
 
 abbrev pub first_fault : List Test → Option ℕ
 first_fault [] = none
 first_fault (x ∷ xs) = cond x.1 (first_fault xs) (some x.0)
 
-abbrev pub add : Sheet → Option Line → Sheet
-add t none = t
-add t (some l) = make t l.letter l.fields
+abbrev pub add : Layout → Sheet → Option Line → Sheet
+add y t none = t
+add y t (some l) = make y t l.letter l.fields
 
 -- ---- the whole: 1, then the lines from the first
 
@@ -118,7 +118,10 @@ abbrev pub unless_fault : Option ℕ → (place column : ℕ) → Read → Read
 unless_fault none place column more = more
 unless_fault (some c) place column more = refused c place column
 
-module _ (n : ℕ) where
+module _ (y : Layout) where
+  abbrev n : ℕ
+  n = field_count y
+
   unfoldable pub line_at : List ℕ → ℕ → Option Line
   line_at s k = line_of n (bytes_at n s k)
 
@@ -127,12 +130,12 @@ module _ (n : ℕ) where
   column_at s k = get_or (column_of n (bytes_at n s k)) 0
 
   unfoldable pub tests_at : List ℕ → Sheet → ℕ → List Test
-  tests_at s t k = tests_of t k (is_last n s k) (line_at s k)
+  tests_at s t k = tests_of y t k (is_last n s k) (line_at s k)
 
   -- m lines from line k on, after lines that say t
   unfoldable pub read_from : List ℕ → ℕ → ℕ → Sheet → Read
   read_from s zero k t = accepted t
-  read_from s (suc m) k t = unless_fault (first_fault (tests_at s t k)) (suc k) (column_at s k) (read_from s m (suc k) (add t (line_at s k)))
+  read_from s (suc m) k t = unless_fault (first_fault (tests_at s t k)) (suc k) (column_at s k) (read_from s m (suc k) (add y t (line_at s k)))
 
   unfoldable pub read : List ℕ → Read
   read s = cond (length_ok n (length s)) (read_from s (line_count n s) 0 (started 0 0)) (refused 1 0 0)

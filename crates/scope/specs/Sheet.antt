@@ -1,5 +1,5 @@
 -- The planning sheet: its value, how it is printed, and when it is valid. Assumes nothing.
-use Rattle.std.specs.Prelude.{ℕ, zero, suc, ◌+◌, ◌-◌, ◌/◌, ◌%◌, ◌≤◌, Bool, true, false, cond, ◌&&◌, List, [], ◌∷◌, ◌++◌, map, leb, ltb, length, replicate}
+use Rattle.std.specs.Prelude.{ℕ, zero, suc, ◌+◌, ◌-◌, ◌/◌, ◌%◌, ◌≤◌, Bool, true, false, cond, ◌&&◌, List, [], ◌∷◌, ◌++◌, map, ◌≡◌, leb, ltb, length, replicate}
 use Prim.Native.Char.{code}
 
 -- ---- the value
@@ -15,9 +15,17 @@ number m n = record { minus = m; size = n }
 abbrev pub plus : ℕ → Number
 plus n = number false n
 
--- A wish is a clause of switch literals: k means switch k on, and -k means off.
+-- A clause of switch literals: k means switch k on, and -k means off.
 abbrev pub Clause : Type 0
 Clause = List Number
+
+-- A wish is a clause and its weight, which is what breaking it costs.
+pub record Wish : Type 0 where
+  pub clause : Clause
+  pub weight : ℕ
+
+abbrev pub wish : Clause → ℕ → Wish
+wish w n = record { clause = w; weight = n }
 
 -- Points are numbered 1 to a for switches, a+1 to a+f for faults, then one for each gate in line order.
 pub data Gate : Type 0 where
@@ -29,9 +37,9 @@ pub record Sheet : Type 0 where
   pub faults : ℕ
   pub gates : List Gate
   pub rules : List ℕ
-  pub wishes : List Clause
+  pub wishes : List Wish
 
-abbrev pub sheet : ℕ → ℕ → List Gate → List ℕ → List Clause → Sheet
+abbrev pub sheet : ℕ → ℕ → List Gate → List ℕ → List Wish → Sheet
 sheet a f gs rs ws = record { switches = a; faults = f; gates = gs; rules = rs; wishes = ws }
 
 abbrev pub points : Sheet → ℕ
@@ -97,32 +105,45 @@ unfoldable pub text : List Line → List ℕ
 text [] = []
 text (l ∷ ls) = line_bytes l ++ text ls
 
--- ---- a sheet whose lines have n fields: H, then gates, R lines, W lines, and Z; n = 3 for now
+-- ---- two layouts of a sheet: H, then gates, R lines, W lines, and Z
 
-abbrev pub field_count : ℕ
-field_count = 3
+-- `plain` lines have three numbers, 17 bytes, and every wish weighs 1; `weighted` ones have four, 22 bytes
+pub data Layout : Type 0 where
+  plain weighted : Layout
 
-module _ (n : ℕ) where
-  -- unused fields hold 0
-  abbrev pub filled : List Number → List Number
-  filled xs = xs ++ replicate (n - length xs) (plus 0)
+abbrev pub field_count : Layout → ℕ
+field_count plain = 3
+field_count weighted = 4
 
+-- unused fields hold 0
+abbrev pub filled : ℕ → List Number → List Number
+filled n xs = xs ++ replicate (n - length xs) (plus 0)
+
+abbrev pub most_literals : ℕ
+most_literals = 3
+
+-- the fourth number of a wish
+abbrev pub weight_field : Layout → ℕ → List Number
+weight_field plain n = []
+weight_field weighted n = plus n ∷ []
+
+module _ (y : Layout) where
   abbrev pub head_line : ℕ → ℕ → Line
-  head_line a f = line H (filled (plus a ∷ plus f ∷ []))
+  head_line a f = line H (filled (field_count y) (plus a ∷ plus f ∷ []))
 
   abbrev pub gate_line : Gate → Line
-  gate_line (not p) = line N (filled (plus p ∷ []))
-  gate_line (and p q) = line A (filled (plus p ∷ plus q ∷ []))
-  gate_line (or p q) = line O (filled (plus p ∷ plus q ∷ []))
+  gate_line (not p) = line N (filled (field_count y) (plus p ∷ []))
+  gate_line (and p q) = line A (filled (field_count y) (plus p ∷ plus q ∷ []))
+  gate_line (or p q) = line O (filled (field_count y) (plus p ∷ plus q ∷ []))
 
   abbrev pub rule_line : ℕ → Line
-  rule_line p = line R (filled (plus p ∷ []))
+  rule_line p = line R (filled (field_count y) (plus p ∷ []))
 
-  abbrev pub wish_line : Clause → Line
-  wish_line w = line W (filled w)
+  abbrev pub wish_line : Wish → Line
+  wish_line w = line W (filled most_literals w.clause ++ weight_field y w.weight)
 
   abbrev pub end_line : ℕ → Line
-  end_line k = line Z (filled (plus k ∷ []))
+  end_line k = line Z (filled (field_count y) (plus k ∷ []))
 
   -- all but Z
   unfoldable pub body : Sheet → List Line
@@ -152,8 +173,8 @@ most_rules = 64
 abbrev pub most_wishes : ℕ
 most_wishes = 64
 
-abbrev pub most_literals : ℕ
-most_literals = 3
+abbrev pub most_weight : ℕ
+most_weight = 999
 
 abbrev pub All : {A : Type 0} → (A → Type 0) → List A → Type 0
 All P [] = Unit {0}
@@ -173,8 +194,11 @@ abbrev pub Ordered : ℕ → List Gate → Type 0
 Ordered n [] = Unit {0}
 Ordered n (g ∷ gs) = Names n g × Ordered (suc n) gs
 
-abbrev pub Wish : ℕ → Clause → Type 0
-Wish a w = (length w ≤ most_literals) × All (λ x. Among a x.size) w
+-- a wish over a switches
+pub record Allowed (a : ℕ) (w : Wish) : Type 0 where
+  pub few : length w.clause ≤ most_literals
+  pub literals : All (λ x. Among a x.size) w.clause
+  pub weight : Among most_weight w.weight
 
 pub record Valid (t : Sheet) : Type 0 where
   pub switches : t.switches ≤ most_switches
@@ -184,4 +208,9 @@ pub record Valid (t : Sheet) : Type 0 where
   pub few_wishes : length t.wishes ≤ most_wishes
   pub gates : Ordered (t.switches + t.faults) t.gates
   pub rules : All (Among (points t)) t.rules
-  pub wishes : All (Wish t.switches) t.wishes
+  pub wishes : All (Allowed t.switches) t.wishes
+
+-- these wishes can be said in a layout: without a number for it every weight is 1
+abbrev pub Sayable : Layout → List Wish → Type 0
+Sayable plain ws = All (λ w. w.weight ≡ 1) ws
+Sayable weighted ws = Unit {0}

@@ -1,6 +1,6 @@
 -- What is read, whatever form it is read from: what a promise says of it, and what the jobs need of it. Assumes nothing.
 use Rattle.std.specs.Prelude.{ℕ, ◌≤◌, List, ◌≡◌}
-use Rattle.scope.specs.Sheet.{Sheet, field_count, Valid}
+use Rattle.scope.specs.Sheet.{Sheet, weighted, Valid}
 use Rattle.scope.specs.Causes.{Read, accepted, refused}
 use Rattle.scope.specs.Sheets.{SheetRead}
 use Rattle.scope.specs.Texts.{TextRead}
@@ -29,5 +29,5 @@ pub data Form : Type 0 where
   sheet text : List ℕ → Form
 
 abbrev pub ReadFrom : Form → Read → Type 0
-ReadFrom (sheet s) = SheetRead field_count s
+ReadFrom (sheet s) = SheetRead weighted s
 ReadFrom (text s) = TextRead s

@@ -3,8 +3,8 @@ use Rattle.std.specs.Prelude.{ℕ, suc, ◌+◌, ◌≤◌, Bool, cond, ◌&&◌
 use Prim.Native.Char.{code}
 use Rattle.std.proofs.Math.Bool as bool
 use Rattle.scope.specs.Text.{bytes}
-use Rattle.scope.specs.Sheet.{Number, Clause, Gate, Sheet, sheet, decimal, All, Among, most_switches, most_faults, most_gates, most_rules, most_wishes, most_literals}
-use Rattle.scope.specs.Causes.{Test}
+use Rattle.scope.specs.Sheet.{Number, plus, Clause, Gate, Wish, Sheet, sheet, decimal, All, Among, most_switches, most_faults, most_gates, most_rules, most_wishes, most_literals}
+use Rattle.scope.specs.Causes.{is_weight, Test}
 use Rattle.scope.specs.Meaning.{all}
 
 -- ---- the value
@@ -18,9 +18,9 @@ pub record Typed : Type 0 where
   pub switches : ℕ
   pub faults : ℕ
   pub rules : List Formula
-  pub wishes : List Clause
+  pub wishes : List Wish
 
-abbrev pub typed : ℕ → ℕ → List Formula → List Clause → Typed
+abbrev pub typed : ℕ → ℕ → List Formula → List Wish → Typed
 typed a f rs ws = record { switches = a; faults = f; rules = rs; wishes = ws }
 
 -- ---- words
@@ -29,12 +29,19 @@ typed a f rs ws = record { switches = a; faults = f; rules = rs; wishes = ws }
 abbrev pub most_text : ℕ
 most_text = 16384
 
--- numbers in a text have up to two digits, and no leading zero
+-- the largest number in a text that is no weight, and the largest weight
 abbrev pub most_number : ℕ
 most_number = 99
 
+abbrev pub most_stated : ℕ
+most_stated = 9999
+
+abbrev pub most_digits : ℕ
+most_digits = 4
+
+-- up to four digits, and no leading zero
 abbrev pub numeral : ℕ → List ℕ
-numeral n = decimal 2 n
+numeral n = decimal most_digits n
 
 -- words and signs of a formula may be parted by single spaces
 pub data Gap : List ℕ → Type 0 where
@@ -77,22 +84,29 @@ unfoldable pub literals_bytes : Clause → List ℕ
 literals_bytes [] = []
 literals_bytes (x ∷ xs) = code " " ∷ literal_bytes x ++ literals_bytes xs
 
-unfoldable pub wish_lines : List Clause → List ℕ
-wish_lines [] = []
-wish_lines (w ∷ ws) = bytes "wish" ++ literals_bytes w ++ code "\n" ∷ wish_lines ws
-
 -- one to three literals
 abbrev pub Writable : Clause → Type 0
 Writable w = (1 ≤ length w) × (length w ≤ most_literals) × All (λ x. Among most_number x.size) w
+
+-- a weight after the literals; it is 1 where it is missing
+pub data Weight : ℕ → List ℕ → Type 0 where
+  missing : Weight 1 []
+  stated : {n : ℕ} → n ≤ most_stated → Weight n (bytes " weight " ++ numeral n)
+
+-- wishes, if any
+pub data WishLines : List Wish → List ℕ → Type 0 where
+  none : WishLines [] []
+  next : {w : Wish} {ws : List Wish} {s t : List ℕ} → Writable w.clause → Weight w.weight s → WishLines ws t → WishLines (w ∷ ws) (bytes "wish" ++ literals_bytes w.clause ++ s ++ code "\n" ∷ t)
 
 -- s is a legal text for v, whatever its length
 pub record Legal (v : Typed) (s : List ℕ) : Type 0 where
   pub switches : v.switches ≤ most_number
   pub faults : v.faults ≤ most_number
-  pub wishes : All Writable v.wishes
   pub rules : List ℕ
   pub written : RuleLines v.rules rules
-  pub text : s ≡ bytes "switches " ++ numeral v.switches ++ code "\n" ∷ bytes "faults " ++ numeral v.faults ++ code "\n" ∷ rules ++ wish_lines v.wishes
+  pub wishes : List ℕ
+  pub wished : WishLines v.wishes wishes
+  pub text : s ≡ bytes "switches " ++ numeral v.switches ++ code "\n" ∷ bytes "faults " ++ numeral v.faults ++ code "\n" ∷ rules ++ wishes
 
 -- ---- what a formula means
 
@@ -153,10 +167,10 @@ module _ (a f : ℕ) where
   rule_tests n i [] = []
   rule_tests n i (x ∷ xs) = ((5, leb (n + operators x) most_gates && ltb i most_rules) ∷ (6, known x) ∷ []) ∷ rule_tests (n + operators x) (suc i) xs
 
-  -- 5: wish 65; 6: a literal that is not on the sheet
-  unfoldable pub wish_tests : ℕ → List Clause → List (List Test)
+  -- 5: wish 65; 6: a literal that is not on the sheet; 14: a weight outside 1 to 999
+  unfoldable pub wish_tests : ℕ → List Wish → List (List Test)
   wish_tests j [] = []
-  wish_tests j (w ∷ ws) = ((5, ltb j most_wishes) ∷ (6, all w (λ x. leb x.size a)) ∷ []) ∷ wish_tests (suc j) ws
+  wish_tests j (w ∷ ws) = ((5, ltb j most_wishes) ∷ (6, all w.clause (λ x. leb x.size a)) ∷ (14, is_weight (plus w.weight)) ∷ []) ∷ wish_tests (suc j) ws
 
 unfoldable pub sheet_of : Typed → Sheet
 sheet_of v = sheet v.switches v.faults (all_gates v.switches v.faults 0 v.rules) (all_points v.switches v.faults 0 v.rules) v.wishes

@@ -1,7 +1,7 @@
--- A sheet as an array of words: five counts, then room for 400 gates of three words, 64 rules of one and 64 wishes of three. Assumes nothing.
+-- A sheet as an array of words: five counts, then room for 400 gates of three words, 64 rules of one and 64 wishes of four. Assumes nothing.
 use Rattle.std.specs.Prelude.{ℕ, zero, suc, ◌+◌, ◌-◌, ◌*◌, ◌/◌, ◌%◌, ◌<◌, cond, List, [], ◌∷◌, ◌++◌, eqb, length, get_or, replicate}
 use Prim.Native.Char.{code}
-use Rattle.scope.specs.Sheet.{Number, number, plus, Clause, Gate, Sheet, sheet, most_gates, most_rules, most_wishes}
+use Rattle.scope.specs.Sheet.{Number, number, plus, Clause, Gate, Wish, wish as wishOf, Sheet, sheet, most_gates, most_rules, most_wishes}
 
 -- ---- where the words stand
 
@@ -9,7 +9,7 @@ abbrev pub gate_size : ℕ
 gate_size = 3
 
 abbrev pub wish_size : ℕ
-wish_size = 3
+wish_size = 4
 
 -- the counts are those of switches, faults, gates, rules and wishes
 abbrev pub gates_from : ℕ
@@ -46,7 +46,7 @@ gate_of k p q = cond (eqb k (code "N")) (cond (eqb q 0) (Gate.not p) no_gate) (c
 abbrev pub rule_words : ℕ → List ℕ
 rule_words p = p ∷ []
 
--- ---- a wish: its literals, and then zeros; a literal k is 2k, and -k is 2k + 1
+-- ---- a wish: its literals, zeros up to three, and its weight; a literal k is 2k, and -k is 2k + 1
 
 abbrev pub literal_code : Number → ℕ
 literal_code x = cond x.minus (x.size * 2 + 1) (x.size * 2)
@@ -54,10 +54,14 @@ literal_code x = cond x.minus (x.size * 2 + 1) (x.size * 2)
 abbrev pub literal_at : ℕ → Clause → ℕ
 literal_at i w = literal_code (get_or w i (plus 0))
 
-abbrev pub wish_words : Clause → List ℕ
-wish_words w = literal_at 0 w ∷ literal_at 1 w ∷ literal_at 2 w ∷ []
+abbrev pub wish_words : Wish → List ℕ
+wish_words w = literal_at 0 w.clause ∷ literal_at 1 w.clause ∷ literal_at 2 w.clause ∷ w.weight ∷ []
 
--- and back, up to the last word that is not 0
+-- what stands where there is no wish
+abbrev pub no_wish : Wish
+no_wish = wishOf [] 0
+
+-- and the clause back, up to the last word that is not 0
 abbrev pub literal_from : ℕ → Number
 literal_from c = number (eqb (c % 2) 1) (c / 2)
 
@@ -79,8 +83,8 @@ module _ (s : List ℕ) where
   abbrev pub rule_at : ℕ → ℕ
   rule_at i = word s (i + rules_from)
 
-  abbrev pub wish_at : ℕ → Clause
-  wish_at i = clause_of (word s (i * wish_size + wishes_from)) (word s (i * wish_size + (wishes_from + 1))) (word s (i * wish_size + (wishes_from + 2)))
+  abbrev pub wish_at : ℕ → Wish
+  wish_at i = wishOf (clause_of (word s (i * wish_size + wishes_from)) (word s (i * wish_size + (wishes_from + 1))) (word s (i * wish_size + (wishes_from + 2)))) (word s (i * wish_size + (wishes_from + 3)))
 
   abbrev pub held : Sheet
   held = sheet (word s 0) (word s 1) (entries gate_at (word s 2)) (entries rule_at (word s 3)) (entries wish_at (word s 4))

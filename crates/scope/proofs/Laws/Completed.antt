@@ -1,15 +1,17 @@
 -- A typed text that is read to its end is legal; one that is not is, up to where it stops, the beginning of a legal one. Assumes nothing.
-use Rattle.std.specs.Prelude.{ℕ, suc, ◌+◌, ◌-◌, ◌*◌, ◌≤◌, false, List, [], ◌∷◌, ◌++◌, ◌≡◌, length, take}
+use Prim.Native.Nat.{ℕ, zero, suc, ◌+◌, ◌-◌, ◌*◌, ◌≤◌}
 use Prim.Native.Char.{code}
-use Rattle.std.proofs.Common.{arith, append-nil, ap, subst, eq-eqb}
+use Rattle.std.proofs.Common.{arith, append-nil, ap, subst, eq-eqb, le-ltb}
+use Rattle.std.specs.Prelude.{Bool, cond, List, [], ◌∷◌, ◌++◌, ◌≡◌, ltb, length, take}
+use Rattle.std.proofs.Math.Bool.{true, false}
 use Rattle.std.proofs.Math.Option.{Option, none, some}
 use Rattle.std.proofs.Math.Path.{refl}
 use Rattle.std.proofs.Math.Seq.{append_snoc}
 use Rattle.scope.specs.Text.{bytes}
-use Rattle.scope.specs.Sheet.{number, Clause}
+use Rattle.scope.specs.Sheet.{number, Clause, wish as wishOf}
 use Rattle.scope.specs.Typed.{Formula, Typed, typed, Level, ors, ands, factor, Legal}
 use Rattle.scope.specs.Texts.{Starts}
-use Rattle.scope.specs.Parsing.{Around, Slot, State, feed, add_rule, add_wish, operand_done, number_done, joined_or, outside, closed, fed, move, step, Outcome, legal, stuck, at_end, go_on, walk, start}
+use Rattle.scope.specs.Parsing.{Around, Slot, State, feed, add_rule, add_wish, operand_done, number_done, joined_or, outside, closed, fed, room, grown, move, step, Outcome, legal, stuck, at_end, go_on, walk, start}
 use Rattle.scope.proofs.Laws.Reached.{Reached, start_reached, Next, step_reached}
 
 -- ---- all the bytes of a text
@@ -28,13 +30,14 @@ end_told (State.rule_line v) p (Reached.rule_line l e) = rw append-nil l
 end_told (State.wish_line v) p (Reached.wish_line l) = rw append-nil l
 end_told (State.word w st) p r = stuck_told r
 end_told (State.digits slot) p r = stuck_told r
-end_told (State.second slot n) p r = stuck_told r
+end_told (State.further slot n) p r = stuck_told r
 end_told (State.spaced k) p r = stuck_told r
 end_told (State.operand k) p r = stuck_told r
 end_told (State.after a x) p r = stuck_told r
 end_told (State.sign a x) p r = stuck_told r
 end_told (State.wish v w) p r = stuck_told r
 end_told (State.ended v w) p r = stuck_told r
+end_told (State.another v w) p r = stuck_told r
 
 told_cons : (b : ℕ) (p s : List ℕ) (o : Outcome) → Told (p ++ b ∷ []) s o → Told p (b ∷ s) o
 told_cons b p s (legal v) h = rw append_snoc at h
@@ -89,7 +92,7 @@ around_ends (Around.head a) = λ x. around_ends a x
 around_ends (Around.amp y a) = λ x. around_ends a (Formula.and y x)
 around_ends (Around.bang k) = λ x. around_ends k (Formula.not x)
 
--- ---- a number: a second digit makes it complete, whatever it is for
+-- ---- a number: zeros make it complete, whatever it is for
 
 faults_end : (a n : ℕ) → Ends (number_done (Slot.faults a) n)
 unfolding number_done at_end walk
@@ -97,16 +100,30 @@ faults_end a n = word_ends feed (State.rule_line (typed a n [] [])) (omega arith
 
 wish_ends : (v : Typed) (w : Clause) → Ends (State.ended v w)
 unfolding step move at_end walk
-wish_ends v w = ends_by (State.ended v w) (State.wish_line (add_wish v w)) (code "\n") refl ([], add_wish v w, refl)
+wish_ends v w = let to : Typed = add_wish v (wishOf w 1) in ends_by (State.ended v w) (State.wish_line to) (code "\n") refl ([], to, refl)
+
+weight_ends : (v : Typed) (w : Clause) (n : ℕ) → Ends (number_done (Slot.weight v w) n)
+unfolding number_done at_end walk
+weight_ends v w n = let to : Typed = add_wish v (wishOf w n) in word_ends feed (State.wish_line to) (omega arith) ([], to, refl)
 
 module _ (slot : Slot) (done : (n : ℕ) → Ends (number_done slot n)) where
-  second_ends : (n : ℕ) → Ends (State.second slot n)
+  -- a 0 makes it larger, until no more digit may come
+  grown_ends : (k n : ℕ) → 1 ≤ n → room slot ≤ n + k → Ends (grown slot n)
+  unfolding grown step
+  grown_ends zero n i h = rw (le-ltb n (room slot) (omega arith)) (done n)
+  grown_ends (suc k) n i h = go (ltb n (room slot)) (grown_ends k (n * 10 + 0) (omega arith) (omega arith))
+    where
+      go : (t : Bool) → Ends (grown slot (n * 10 + 0)) → Ends (cond t (State.further slot n) (number_done slot n))
+      go true more = ends_by (State.further slot n) (grown slot (n * 10 + 0)) (code "0") refl more
+      go false more = done n
+
+  further_ends : (n : ℕ) → 1 ≤ n → Ends (State.further slot n)
   unfolding step
-  second_ends n = ends_by (State.second slot n) (number_done slot (n * 10 + 0)) (code "0") refl (done (n * 10 + 0))
+  further_ends n i = ends_by (State.further slot n) (grown slot (n * 10 + 0)) (code "0") refl (grown_ends (room slot) (n * 10 + 0) (omega arith) (omega arith))
 
   digits_end : Ends (State.digits slot)
   unfolding step move
-  digits_end = ends_by (State.digits slot) (State.second slot 1) (code "1") refl (second_ends 1)
+  digits_end = ends_by (State.digits slot) (State.further slot 1) (code "1") refl (further_ends 1 (omega arith))
 
 number_ends : (slot : Slot) (n : ℕ) → Ends (number_done slot n)
 unfolding number_done
@@ -115,6 +132,7 @@ number_ends (Slot.faults a) n = faults_end a n
 number_ends (Slot.switch k) n = around_ends k (Formula.switch n)
 number_ends (Slot.fault k) n = around_ends k (Formula.fault n)
 number_ends (Slot.literal v w minus) n = wish_ends v (w ++ number minus n ∷ [])
+number_ends (Slot.weight v w) n = weight_ends v w n
 
 -- ---- any state
 
@@ -129,7 +147,7 @@ reached_ends : {st : State} {p : List ℕ} → Reached st p → Ends st
 unfolding step move at_end walk
 reached_ends (Reached.word {w = w} {st = st} h r) = word_ends w st h (reached_ends r)
 reached_ends (Reached.digits {slot = slot} h) = slot_ends slot
-reached_ends (Reached.second {slot = slot} {n = n} h i) = second_ends slot (number_ends slot) n
+reached_ends (Reached.further {slot = slot} {n = n} h i l) = further_ends slot (number_ends slot) n i
 reached_ends (Reached.rule_line {v = v} l e) = ([], v, refl)
 reached_ends (Reached.wish_line {v = v} l) = ([], v, refl)
 reached_ends (Reached.spaced {k = k} h i) = operand_ends k
@@ -138,6 +156,7 @@ reached_ends (Reached.after {a = a} {x = x} h w) = around_ends a x
 reached_ends (Reached.sign {a = a} {x = x} h w) = ends_by (State.sign a x) (State.spaced (Around.amp x a)) (code "&") refl (operand_ends (Around.amp x a))
 reached_ends (Reached.wish {v = v} {w = w} h i) = ends_by (State.wish v w) (State.digits (Slot.literal v w false)) (code "s") refl (slot_ends (Slot.literal v w false))
 reached_ends (Reached.ended {v = v} {w = w} u h i) = wish_ends v w
+reached_ends (Reached.another {v = v} {w = w} u h i) = let weight : Slot = Slot.weight v w in ends_by (State.another v w) (State.word (bytes "eight ") (State.digits weight)) (code "w") refl (word_ends (bytes "eight ") (State.digits weight) (omega arith) (slot_ends weight))
 
 -- ---- where no byte goes on
 

@@ -2,11 +2,12 @@
 use Rattle.std.specs.Prelude.{ℕ, ◌*◌, ◌≤◌, List, [], ◌∷◌, ◌≡◌, refl, length, take, drop}
 use Rattle.std.proofs.Common.{arith, length-append, le-ltb}
 use Rattle.std.proofs.Math.Seq.{take-append_seam}
-use Rattle.scope.specs.Sheet.{Sheet, fields_bytes, field_count, sheet_bytes, All}
-use Rattle.scope.specs.Causes.{Read, accepted, refused, line_size, most_bytes}
+use Rattle.scope.specs.Sheet.{Sheet, fields_bytes, weighted, sheet_bytes, All}
+use Rattle.scope.specs.Causes.{Read, accepted, refused, line_size}
 use Rattle.scope.specs.Source.{Source}
-use Rattle.scope.specs.Program.{Row, rows_bytes, each, output_fields, output_rows, output, converted, converted_of}
+use Rattle.scope.specs.Program.{Row, rows_bytes, each, output_fields, output_rows, output, most_sheet, converted, converted_of}
 use Rattle.scope.proofs.Laws.Lines.{length_fields}
+use Rattle.scope.proofs.Laws.Steps.{three_fields}
 use Rattle.scope.proofs.Laws.Inverse.{few_body}
 use Rattle.scope.proofs.Laws.Writing.{sheet_size}
 use Rattle.scope.proofs.Laws.Outputs.{Fits, output_fits}
@@ -17,11 +18,11 @@ unfolding rows_bytes
 length_rows [] f c = refl
 length_rows (r ∷ rs) (f, fs) (c, cs) = omega (arith, length-append (fields_bytes r.fields) (rows_bytes rs), length_fields r.fields f, length_rows rs fs cs)
 
-pub converted_most : (r : Read) → Source r → length (converted r) ≤ most_bytes field_count
+pub converted_most : (r : Read) → Source r → length (converted r) ≤ most_sheet
 unfolding converted output output_rows each
-converted_most (accepted t) h = omega (arith, sheet_size field_count (omega arith) t (h.valid t refl), few_body field_count (omega arith) t (h.valid t refl))
+converted_most (accepted t) h = omega (arith, sheet_size weighted t (h.valid t refl), few_body weighted (three_fields weighted) t (h.valid t refl))
 converted_most (refused c place column) h = omega (arith, length_rows (output_rows (refused c place column)) (output_fits (refused c place column) h) (refl, (refl, tt)))
 
-pub converted_sheet : (t : Sheet) (out : List ℕ) → most_bytes field_count ≤ length out → take (converted_of (accepted t) out).length (converted_of (accepted t) out).buffer ≡ sheet_bytes field_count t
+pub converted_sheet : (t : Sheet) (out : List ℕ) → most_sheet ≤ length out → take (converted_of (accepted t) out).length (converted_of (accepted t) out).buffer ≡ sheet_bytes weighted t
 unfolding converted converted_of
-converted_sheet t out h = rw (le-ltb (length out) (most_bytes field_count) h) (take-append_seam (sheet_bytes field_count t) (drop (length (sheet_bytes field_count t)) out))
+converted_sheet t out h = rw (le-ltb (length out) most_sheet h) (take-append_seam (sheet_bytes weighted t) (drop (length (sheet_bytes weighted t)) out))

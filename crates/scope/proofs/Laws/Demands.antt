@@ -1,11 +1,11 @@
 -- The jobs keep demands 1, 2 and 3. Assumes nothing.
-use Rattle.std.specs.Prelude.{ℕ, suc, ◌≤◌, ◌<◌, Bool, true, false, List, [], ◌∷◌, ◌++◌, ◌↔◌, ◌≢◌, ◌≡◌, refl, length, get_or, take, drop}
+use Rattle.std.specs.Prelude.{ℕ, suc, ◌≤◌, ◌<◌, Bool, true, false, List, [], ◌∷◌, ◌++◌, ◌↔◌, ◌≢◌, ◌⊎◌, ◌≡◌, refl, length, get_or, take, drop}
 use Rattle.std.proofs.Math.Decide.{dec_le}
 use Rattle.std.proofs.Common.{arith, append-nil, inl, inr, sym, ap, subst, ◌∙◌, drop_of_length-le, take_all, length-take-le, get_or-take, lt-ltb}
 use Rattle.std.proofs.Math.Option.{Option, none, some, some-injective}
 use Rattle.std.proofs.Math.Seq.{take-append_seam}
 use Rattle.std.proofs.lemmas.Bool.{not-true, not-false}
-use Rattle.scope.specs.Sheet.{Sheet, field_count}
+use Rattle.scope.specs.Sheet.{Sheet, weighted}
 use Rattle.scope.specs.Causes.{Read, accepted, refused}
 use Rattle.scope.specs.Sheets.{SheetRead, SheetRefusal}
 use Rattle.scope.specs.Meaning.{plans, patterns, passes, cost}
@@ -292,21 +292,28 @@ ending_of R lent (accepted t) i = go (dec_le (length (list t)) (length lent))
     go (yes h) = rw (room (task t) (length lent) h) (enough_ending R t lent i h (whole (task t)).verdict (verdict_right (task t)))
     go (no n) = rw (little_room (task t) (length lent) (omega arith)) (crowded_ending R t lent i (omega arith))
 
-sheet_number : (s lent : List ℕ) {a : Answer} → Ending (SheetRead field_count s) lent a → a.result.number ≤ 9
-sheet_number s lent (claimed.plan i h b) = omega arith
-sheet_number s lent (claimed.no_plan i h n) = omega arith
-sheet_number s lent (claimed.no_room i h) = omega arith
-sheet_number s lent (claimed.turned_down i) = omega (arith, figures_within (refusal_number field_count s i))
+sheet_number : (s lent : List ℕ) {a : Answer} → Ending (SheetRead weighted s) lent a → (a.result.number ≤ 9) ⊎ (a.result.number ≡ 14)
+sheet_number s lent (claimed.plan i h b) = inl (omega arith)
+sheet_number s lent (claimed.no_plan i h n) = inl (omega arith)
+sheet_number s lent (claimed.no_room i h) = inl (omega arith)
+sheet_number s lent (claimed.turned_down {c} i) = go (dec_le 8 c)
+  where
+    own : 8 ≤ c → c ≡ 14
+    own = (figures_within (refusal_number weighted s i)).1
 
-sheet_figures : (s lent : List ℕ) {a : Answer} → Ending (SheetRead field_count s) lent a → 1 ≤ a.result.number → a.result.number ≤ 7 → SheetRefusal field_count a.result.number a.result.place a.result.column
-sheet_figures s lent (claimed.plan i h b) low high = absurd (omega arith)
-sheet_figures s lent (claimed.no_plan i h n) low high = absurd (omega arith)
-sheet_figures s lent (claimed.no_room i h) low high = absurd (omega arith)
-sheet_figures s lent (claimed.turned_down i) low high = refusal_number field_count s i
+    go : Dec (8 ≤ c) → (c ≤ 9) ⊎ (c ≡ 14)
+    go (yes h) = inr (own h)
+    go (no h) = inl (omega arith)
 
-pub demand1 : (s lent : List ℕ) (r : Read) → SheetRead field_count s r → Demand1 s lent (answer_of r lent)
+sheet_figures : (s lent : List ℕ) {a : Answer} → Ending (SheetRead weighted s) lent a → a.result.number ≢ 0 → a.result.number ≢ 8 → a.result.number ≢ 9 → SheetRefusal weighted a.result.number a.result.place a.result.column
+sheet_figures s lent (claimed.plan i h b) e f g = absurd (e refl)
+sheet_figures s lent (claimed.no_plan i h n) e f g = absurd (f refl)
+sheet_figures s lent (claimed.no_room i h) e f g = absurd (g refl)
+sheet_figures s lent (claimed.turned_down i) e f g = refusal_number weighted s i
+
+pub demand1 : (s lent : List ℕ) (r : Read) → SheetRead weighted s r → Demand1 s lent (answer_of r lent)
 demand1 s lent r i =
-    let o : Ending (SheetRead field_count s) lent (answer_of r lent) = ending_of (SheetRead field_count s) lent r i in
+    let o : Ending (SheetRead weighted s) lent (answer_of r lent) = ending_of (SheetRead weighted s) lent r i in
     record { number = sheet_number s lent o; ending = o; refusal = sheet_figures s lent o }
 
 -- ---- Short run

@@ -139,6 +139,10 @@ digits_of (suc w) n l h = by_digits (Digits n) w n
     (λ b. subst (λ k. Digits k (digit n ∷ [])) (omega arith) (more_none n b (omega arith)))
     (λ b. let e : n / 10 * 10 + n % 10 ≡ n = omega arith in subst (λ k. Digits k (decimal w (n / 10) ++ digit (n % 10) ∷ [])) e (more_digits (n / 10) (decimal w (n / 10)) (omega arith) (digits_of w (n / 10) (omega arith) (omega (arith, pow-suc 10 w))) (n % 10) (omega arith) (omega arith)))
 
+-- one digit more, behind them
+pub decimal_more : (w n d : ℕ) → 0 < n → d < 10 → n * 10 + d < 10 ^ w → decimal w (n * 10 + d) ≡ decimal w n ++ digit d ∷ []
+decimal_more w n d l h p = (more_digits n (decimal w n) l (digits_of w n l (omega arith)) d h (omega arith)).shown w p
+
 -- a beginning of n's digits is all of them, or a beginning of all but the last; one more digit goes on from either
 front_more : (w n : ℕ) (t v : List ℕ) → 0 < n → n < 10 ^ w → decimal w n ≡ t ++ v → (m : ℕ) × More m t
 front_more zero n t v l h e = absurd (omega arith)

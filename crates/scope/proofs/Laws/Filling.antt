@@ -1,7 +1,7 @@
 -- What is read into lent words: the words of the sheet, or nothing; written out again they give the sheet back. Assumes nothing.
 use Rattle.std.specs.Prelude.{ℕ, ◌≤◌, List, ◌≢◌, ◌≡◌, refl, length}
 use Rattle.std.proofs.Common.{arith, sym}
-use Rattle.scope.specs.Sheet.{Sheet}
+use Rattle.scope.specs.Sheet.{Sheet, weighted}
 use Rattle.scope.specs.Causes.{Read, accepted, refused}
 use Rattle.scope.specs.Sheets.{SheetRead}
 use Rattle.scope.specs.Sheets as sheets
@@ -24,5 +24,5 @@ accepted_words x (accepted t) lent h e = (t, h, refl)
 accepted_words x (refused c place column) lent h e = absurd (omega (arith, ((form_source x (refused c place column) h).refusal c place column refl).some))
 
 -- the tables of an accepted sheet, where there is room, give that sheet
-pub sheet_written : (n : ℕ) (s : List ℕ) (t : Sheet) → SheetRead n s (accepted t) → (u : List ℕ) → held u ≡ t → (out : List ℕ) → length s ≤ length out → IsWritten n u out (written 0 0 0 (length s) (over s out))
-sheet_written n s t (sheets.accepted b v) u h out room = record { read = accepted t; is_read = rw h (writing.accepted v); given = sym (rw b (written_in n t out (rw b at room))) }
+pub sheet_written : (s : List ℕ) (t : Sheet) → SheetRead weighted s (accepted t) → (u : List ℕ) → held u ≡ t → (out : List ℕ) → length s ≤ length out → IsWritten u out (written 0 0 0 (length s) (over s out))
+sheet_written s t (sheets.accepted b v w) u h out room = record { read = accepted t; is_read = rw h (writing.accepted v); given = sym (rw b (written_in t out (rw b at room))) }

@@ -1,7 +1,7 @@
 -- What is read from a sheet or a text is a source, and the same tables have the same answers, whatever form they come from. Assumes nothing.
-use Rattle.std.proofs.Common.{arith, sym, ap, ◌∙◌}
 use Rattle.std.specs.Prelude.{◌≡◌, refl}
-use Rattle.scope.specs.Sheet.{Sheet, field_count, Valid}
+use Rattle.std.proofs.Common.{sym, ap, ◌∙◌}
+use Rattle.scope.specs.Sheet.{Sheet, weighted, Valid}
 use Rattle.scope.specs.Causes.{Read, accepted}
 use Rattle.scope.specs.Source.{Source, Gives, Form, sheet, text, ReadFrom}
 use Rattle.scope.specs.Words.{held, words_of}
@@ -12,11 +12,11 @@ use Rattle.scope.proofs.Laws.TypedSheets.{reads_source}
 use Rattle.scope.proofs.Laws.Words.{held_words}
 
 pub read_once : (x : Form) (r q : Read) → ReadFrom x r → ReadFrom x q → r ≡ q
-read_once (sheet s) r q h i = sym ((sheet_iff field_count (omega arith) s r).1 h) ∙ (sheet_iff field_count (omega arith) s q).1 i
+read_once (sheet s) r q h i = sym ((sheet_iff weighted s r).1 h) ∙ (sheet_iff weighted s q).1 i
 read_once (text s) r q h i = sym ((text_iff s r).1 h) ∙ (text_iff s q).1 i
 
 pub form_source : (x : Form) (r : Read) → ReadFrom x r → Source r
-form_source (sheet s) r h = rw ((sheet_iff field_count (omega arith) s r).1 h) at (sheet_source s)
+form_source (sheet s) r h = rw ((sheet_iff weighted s r).1 h) at (sheet_source s)
 form_source (text s) r h = reads_source s r h
 
 -- valid sheets with the same words are the same

@@ -52,7 +52,7 @@ module _ (t : Sheet) (v : Valid t) where
   plan_fits : (p : ℕ) → All Fits (plan_rows t p)
   plan_fits p = all_append Fits (each switch_row 1 (bits t.switches p)) (each (wish_row t p) 1 t.wishes)
       (each_fits (λ on. Unit {0}) switch_row (λ i on h u. row_fits "S" i (one on) 0 h (one_small on) (omega arith)) 1 (bits t.switches p) (omega (arith, length_bits t.switches p, v.switches)) (all_true (bits t.switches p)))
-      (each_fits (λ w. Unit {0}) (wish_row t p) (λ i w h u. row_fits "W" i (one (kept t p w)) 0 h (one_small (kept t p w)) (omega arith)) 1 t.wishes (omega (arith, v.few_wishes)) (all_true t.wishes))
+      (each_fits (λ w. Unit {0}) (wish_row t p) (λ i w h u. row_fits "W" i (one (kept t p w.clause)) 0 h (one_small (kept t p w.clause)) (omega arith)) 1 t.wishes (omega (arith, v.few_wishes)) (all_true t.wishes))
 
   length_plan : (p : ℕ) → length (plan_rows t p) ≤ most_switches + most_wishes
   length_plan p =

@@ -1,25 +1,27 @@
 -- What stands before each place of a typed text that is read byte by byte. Assumes nothing.
-use Rattle.std.specs.Prelude.{ℕ, zero, suc, ◌+◌, ◌*◌, ◌/◌, ◌%◌, ◌≤◌, ◌<◌, Bool, true, false, cond, ◌≢◌, ◌≡◌, refl, eqb, leb, ltb, length}
+use Rattle.std.specs.Prelude.{ℕ, zero, suc, ◌+◌, ◌*◌, ◌≤◌, ◌<◌, Bool, true, false, cond, List, [], ◌∷◌, ◌++◌, ◌≢◌, ◌≡◌, refl, eqb, leb, ltb, length}
 use Prim.Native.Char.{code}
-use Rattle.std.proofs.Common.{arith, sym, ◌∙◌, eqb-true, leb-true, ltb-true, lt-ltb, le-ltb}
-use mathlib.Core.List.{List, [], ◌∷◌, ◌++◌, append_assoc, append-nil}
+use Rattle.std.proofs.Common.{arith, append_assoc, append-nil, sym, ap, subst, ◌∙◌, eqb-true, leb-true, ltb-true, lt-ltb}
 use Rattle.std.proofs.Math.Option.{Option, none, some}
-use Rattle.std.proofs.Math.Path.{ap, subst}
 use Rattle.std.proofs.Math.Seq.{append_snoc}
 use Rattle.std.proofs.lemmas.Bool.{eqb-false}
 use Rattle.scope.specs.Text.{bytes}
-use Rattle.scope.specs.Sheet.{Number, number, Clause, digit, decimal, All, Among, most_literals}
+use Rattle.scope.specs.Sheet.{Number, number, Clause, Wish, wish as wishOf, digit, decimal, All, Among, most_literals}
 use Rattle.scope.specs.Reading.{when}
-use Rattle.scope.specs.Typed.{Formula, Typed, typed, Gap, Level, ors, ands, factor, Written, RuleLines, Writable, Legal, most_nested, most_number, numeral, literal_bytes, literals_bytes, wish_lines}
-use Rattle.scope.specs.Parsing.{Around, nested, Slot, State, feed, add_rule, add_wish, operand_done, number_done, joined_or, outside, closed, fed, is_digit, digit_of, zero_ok, Arm, on, nested_more, operand_arms, sign_arms, move, step, start}
+use Rattle.scope.specs.Typed.{Formula, Typed, typed, Gap, Level, ors, ands, factor, Written, RuleLines, Writable, Weight, WishLines, Legal, most_nested, most_number, numeral, literal_bytes, literals_bytes}
+use Rattle.scope.specs.Parsing.{Around, nested, Slot, State, feed, add_rule, add_wish, operand_done, number_done, joined_or, outside, closed, fed, is_digit, digit_of, zero_ok, room, grown, Arm, on, nested_more, operand_arms, sign_arms, literal_arms, move, step, start}
 use Rattle.scope.proofs.Laws.Tests.{clash, both}
-use Rattle.scope.proofs.Laws.Lists.{length_snoc, to_right}
+use Rattle.scope.proofs.Laws.Lists.{length_snoc}
 use Rattle.scope.proofs.Laws.Alls.{all_snoc}
+use Rattle.scope.proofs.Laws.Digits.{decimal_more}
 
 -- ---- a text so far, and what is put behind it
 
 rule_behind : (h t r s : List ℕ) → h ++ code "\n" ∷ t ++ [] ++ r ++ s ++ feed ≡ h ++ code "\n" ∷ (t ++ (r ++ s ++ feed)) ++ []
 rule_behind h t r s = simp (append_assoc, append-nil)
+
+wish_behind : (h t w s : List ℕ) → h ++ t ++ w ++ (s ++ feed) ≡ h ++ (t ++ (w ++ s ++ feed))
+wish_behind h t w s = simp append_assoc
 
 literal_behind : (p s t u n : List ℕ) → p ++ (s ++ t) ++ u ++ n ≡ p ++ (s ++ (t ++ (u ++ n)))
 literal_behind p s t u n = simp append_assoc
@@ -39,26 +41,34 @@ unfolding literals_bytes
 literals_snoc [] x = append-nil (code " " ∷ literal_bytes x)
 literals_snoc (y ∷ w) x = ap (λ s. code " " ∷ literal_bytes y ++ s) (literals_snoc w x) ∙ sym (append_assoc (code " " ∷ literal_bytes y) (literals_bytes w) (code " " ∷ literal_bytes x))
 
-wishes_snoc : (ws : List Clause) (w : Clause) → wish_lines (ws ++ w ∷ []) ≡ wish_lines ws ++ (bytes "wish" ++ literals_bytes w ++ feed)
-unfolding wish_lines
-wishes_snoc [] w = refl
-wishes_snoc (u ∷ ws) w = ap (λ s. bytes "wish" ++ literals_bytes u ++ code "\n" ∷ s) (wishes_snoc ws w) ∙ sym (append_assoc (bytes "wish" ++ literals_bytes u) (code "\n" ∷ wish_lines ws) (bytes "wish" ++ literals_bytes w ++ feed))
+wishes_snoc : {ws : List Wish} {t s : List ℕ} → WishLines ws t → (w : Wish) → Writable w.clause → Weight w.weight s → WishLines (ws ++ w ∷ []) (t ++ (bytes "wish" ++ literals_bytes w.clause ++ s ++ feed))
+wishes_snoc WishLines.none w h i = WishLines.next {w = w} h i WishLines.none
+wishes_snoc {s = s} (WishLines.next {w = u} {s = r} {t = t} g j ws) w h i = rw (append_assoc (bytes "wish" ++ literals_bytes u.clause ++ r) (code "\n" ∷ t) (bytes "wish" ++ literals_bytes w.clause ++ s ++ feed)) (WishLines.next {w = u} g j (wishes_snoc ws w h i))
 
--- ---- a number's one or two digits
+-- ---- a number's digits
+
+-- up to two of them, or up to four
+pub room_between : (slot : Slot) → (10 ≤ room slot) × (room slot ≤ 1000)
+room_between Slot.switches = omega arith
+room_between (Slot.faults a) = omega arith
+room_between (Slot.switch k) = omega arith
+room_between (Slot.fault k) = omega arith
+room_between (Slot.literal v w minus) = omega arith
+room_between (Slot.weight v w) = omega arith
 
 pub digit_byte : (b : ℕ) → is_digit b ≡ true → (code "0" ≤ b) × (b ≤ code "9")
 digit_byte b e = let (p, q) = both (leb (code "0") b) (leb b (code "9")) e in (leb-true (code "0") b p, leb-true b (code "9") q)
 
-one_digit : (n : ℕ) → n ≤ 9 → numeral n ≡ digit n ∷ []
+one_digit : (b : ℕ) → code "0" ≤ b → b ≤ code "9" → numeral (digit_of b) ≡ b ∷ []
 unfolding decimal
-one_digit n h = rw (lt-ltb n 10 (omega arith))
+one_digit b p q =
+    let d : digit (digit_of b) ≡ b = omega arith in
+    rw (lt-ltb (digit_of b) 10 (omega arith), d)
 
-two_digits : (n b : ℕ) → 1 ≤ n → n ≤ 9 → code "0" ≤ b → b ≤ code "9" → numeral (n * 10 + digit_of b) ≡ digit n ∷ b ∷ []
-unfolding decimal
-two_digits n b h i p q =
-    let m : (n * 10 + digit_of b) / 10 ≡ n = omega arith in
-    let d : digit ((n * 10 + digit_of b) % 10) ≡ b = omega arith in
-    rw (le-ltb (n * 10 + digit_of b) 10 (omega arith), m, lt-ltb n 10 (omega arith), d)
+more_digits : (n b : ℕ) → 1 ≤ n → n < 1000 → code "0" ≤ b → b ≤ code "9" → numeral (n * 10 + digit_of b) ≡ numeral n ++ b ∷ []
+more_digits n b h i p q =
+    let d : digit (digit_of b) ≡ b = omega arith in
+    decimal_more 4 n (digit_of b) h (omega arith) (omega arith) ∙ ap (λ c. numeral n ++ c ∷ []) d
 
 -- ---- what stands before a place
 
@@ -90,12 +100,13 @@ pub data Asked : Slot → (p : List ℕ) → Type 0 where
   switch : {k : Around factor} {d : ℕ} {p : List ℕ} → Before factor k d p → Asked (Slot.switch k) (p ++ bytes "s")
   fault : {k : Around factor} {d : ℕ} {p : List ℕ} → Before factor k d p → Asked (Slot.fault k) (p ++ bytes "f")
   literal : {v : Typed} {w : Clause} {p : List ℕ} (minus : Bool) → Wishing v w p → length w < most_literals → Asked (Slot.literal v w minus) (p ++ code " " ∷ marked minus)
+  weight : {v : Typed} {w : Clause} {p : List ℕ} → Wishing v w p → 1 ≤ length w → length w ≤ most_literals → Asked (Slot.weight v w) (p ++ bytes " weight ")
 
 -- p has come to the state; a word has bytes left, so that it can be completed
 pub data Reached : State → (p : List ℕ) → Type 0 where
   word : {w : List ℕ} {st : State} {p : List ℕ} → 1 ≤ length w → Reached st (p ++ w) → Reached (State.word w st) p
   digits : {slot : Slot} {p : List ℕ} → Asked slot p → Reached (State.digits slot) p
-  second : {slot : Slot} {n : ℕ} {p : List ℕ} → Asked slot p → Among 9 n → Reached (State.second slot n) (p ++ digit n ∷ [])
+  further : {slot : Slot} {n : ℕ} {p : List ℕ} → Asked slot p → 1 ≤ n → n < room slot → Reached (State.further slot n) (p ++ numeral n)
   rule_line : {v : Typed} {p : List ℕ} → Legal v p → v.wishes ≡ [] → Reached (State.rule_line v) p
   wish_line : {v : Typed} {p : List ℕ} → Legal v p → Reached (State.wish_line v) p
   spaced : {k : Around factor} {d : ℕ} {p : List ℕ} → Before factor k d p → Before factor k d (p ++ bytes " ") → Reached (State.spaced k) p
@@ -104,6 +115,7 @@ pub data Reached : State → (p : List ℕ) → Type 0 where
   sign : {a : Around ands} {d : ℕ} {x : Formula} {p s : List ℕ} → Before ands a d p → Written ands d x s → Reached (State.sign a x) (p ++ s ++ bytes " ")
   wish : {v : Typed} {w : Clause} {p : List ℕ} → Wishing v w p → length w < most_literals → Reached (State.wish v w) (p ++ bytes " ")
   ended : {v : Typed} {w : Clause} {p : List ℕ} → Wishing v w p → 1 ≤ length w → length w ≤ most_literals → Reached (State.ended v w) p
+  another : {v : Typed} {w : Clause} {p : List ℕ} → Wishing v w p → 1 ≤ length w → length w ≤ most_literals → Reached (State.another v w) (p ++ bytes " ")
 
 pub start_reached : Reached start []
 start_reached = word {w = bytes "switches "} (omega arith) (digits switches)
@@ -111,38 +123,37 @@ start_reached = word {w = bytes "switches "} (omega arith) (digits switches)
 -- ---- a line is complete
 
 head_legal : {a n : ℕ} → a ≤ most_number → n ≤ most_number → Legal (typed a n [] []) (bytes "switches " ++ numeral a ++ code "\n" ∷ bytes "faults " ++ numeral n ++ feed)
-unfolding wish_lines
-head_legal {a} {n} h i = record { switches = h; faults = i; wishes = tt; rules = []; written = RuleLines.none; text = sym (append-nil (bytes "switches " ++ numeral a ++ code "\n" ∷ bytes "faults " ++ numeral n ++ feed)) }
+head_legal {a} {n} h i = record { switches = h; faults = i; rules = []; written = RuleLines.none; wishes = []; wished = WishLines.none; text = sym (append-nil (bytes "switches " ++ numeral a ++ code "\n" ∷ bytes "faults " ++ numeral n ++ feed)) }
 
 -- the lines before the rules, but for a line feed
 abbrev headed : Typed → List ℕ
 headed v = bytes "switches " ++ numeral v.switches ++ code "\n" ∷ bytes "faults " ++ numeral v.faults
 
-module _ {v : Typed} {p : List ℕ} (l : Legal v p) where
-  rule_added : (x : Formula) (s : List ℕ) → v.wishes ≡ [] → Written ors most_nested x s → Legal (add_rule v x) (p ++ bytes "rule " ++ s ++ feed)
-  unfolding wish_lines
-  rule_added x s e w = record {
-    switches = l.switches;
-    faults = l.faults;
-    wishes = l.wishes;
-    rules = l.rules ++ (bytes "rule " ++ s ++ feed);
-    written = rules_snoc l.written w;
-    text = ap (λ q. q ++ bytes "rule " ++ s ++ feed) (l.text ∙ ap (λ ws. headed v ++ code "\n" ∷ l.rules ++ wish_lines ws) e)
-        ∙ rule_behind (headed v) l.rules (bytes "rule ") s
-        ∙ ap (λ ws. headed v ++ code "\n" ∷ (l.rules ++ (bytes "rule " ++ s ++ feed)) ++ wish_lines ws) (sym e);
-  }
+-- no wishes have no bytes
+no_wishes : {s : List ℕ} → WishLines [] s → s ≡ []
+no_wishes WishLines.none = refl
 
-  wish_added : (w : Clause) → Writable w → Legal (add_wish v w) (p ++ (bytes "wish" ++ literals_bytes w) ++ feed)
-  wish_added w h = record {
-    switches = l.switches;
-    faults = l.faults;
-    wishes = all_snoc Writable v.wishes w l.wishes h;
-    rules = l.rules;
-    written = l.written;
-    text = ap (λ q. q ++ (bytes "wish" ++ literals_bytes w) ++ feed) l.text
-        ∙ to_right (headed v ++ code "\n" ∷ l.rules) (wish_lines v.wishes) (bytes "wish" ++ literals_bytes w) feed
-        ∙ ap (λ s. headed v ++ code "\n" ∷ l.rules ++ s) (sym (wishes_snoc v.wishes w));
-  }
+rule_added : {v : Typed} {p : List ℕ} → Legal v p → (x : Formula) (s : List ℕ) → v.wishes ≡ [] → Written ors most_nested x s → Legal (add_rule v x) (p ++ bytes "rule " ++ s ++ feed)
+rule_added {v} l x s e w = record {
+  switches = l.switches;
+  faults = l.faults;
+  rules = l.rules ++ (bytes "rule " ++ s ++ feed);
+  written = rules_snoc l.written w;
+  wishes = [];
+  wished = rw e WishLines.none;
+  text = ap (λ q. q ++ bytes "rule " ++ s ++ feed) (l.text ∙ ap (λ ws. headed v ++ code "\n" ∷ l.rules ++ ws) (no_wishes (rw e at l.wished))) ∙ rule_behind (headed v) l.rules (bytes "rule ") s;
+}
+
+wish_added : {v : Typed} {w : Clause} {n : ℕ} {p s : List ℕ} → Wishing v w p → 1 ≤ length w → length w ≤ most_literals → Weight n s → Legal (add_wish v (wishOf w n)) (p ++ (s ++ feed))
+wish_added {v} {w} {n} {s = s} u h i k = let l : Legal v u.lines = u.are in record {
+  switches = l.switches;
+  faults = l.faults;
+  rules = l.rules;
+  written = l.written;
+  wishes = l.wishes ++ (bytes "wish" ++ literals_bytes w ++ s ++ feed);
+  wished = wishes_snoc l.wished (wishOf w n) (h, i, u.literals) k;
+  text = ap (λ q. q ++ (s ++ feed)) (u.text ∙ ap (λ q. q ++ (bytes "wish" ++ literals_bytes w)) l.text) ∙ wish_behind (headed v ++ code "\n" ∷ l.rules) l.wishes (bytes "wish" ++ literals_bytes w) s;
+}
 
 -- ---- an operand is complete
 
@@ -168,14 +179,26 @@ literal_added {w} {p} minus n h i = record {
       ∙ ap (λ s. h.lines ++ (bytes "wish" ++ s)) (sym (literals_snoc w (number minus n) ∙ ap (λ s. literals_bytes w ++ code " " ∷ s) (mark_bytes minus n)));
 }
 
--- only a number of switches or faults may be 0
-number_done_lem : {slot : Slot} {p : List ℕ} (n : ℕ) → Asked slot p → (zero_ok slot ≡ false → 1 ≤ n) → n ≤ most_number → Reached (number_done slot n) (p ++ numeral n)
+-- only a number of switches or faults and a weight may be 0
+number_done_lem : {slot : Slot} {p : List ℕ} (n : ℕ) → Asked slot p → (zero_ok slot ≡ false → 1 ≤ n) → n < room slot * 10 → Reached (number_done slot n) (p ++ numeral n)
 unfolding number_done
-number_done_lem n switches h i = word {w = feed ++ bytes "faults "} (omega arith) (digits (faults i))
-number_done_lem n (faults {a = a} j) h i = word {w = feed} (omega arith) (rule_line (head_legal j i) refl)
-number_done_lem n (switch {p = p} b) h i = rw (append_assoc p (bytes "s") (numeral n)) (operand_done_lem b (Written.switch (h refl, i)))
-number_done_lem n (fault {p = p} b) h i = rw (append_assoc p (bytes "f") (numeral n)) (operand_done_lem b (Written.fault (h refl, i)))
-number_done_lem n (literal {w = w} minus u j) h i = ended (literal_added minus n u (h refl, i)) (omega (arith, length_snoc w (number minus n))) (omega (arith, length_snoc w (number minus n)))
+number_done_lem n switches h i = let l : n ≤ most_number = omega arith in word {w = feed ++ bytes "faults "} (omega arith) (digits (faults l))
+number_done_lem n (faults j) h i = let l : n ≤ most_number = omega arith in word {w = feed} (omega arith) (rule_line (head_legal j l) refl)
+number_done_lem n (switch {p = p} b) h i = rw (append_assoc p (bytes "s") (numeral n)) (operand_done_lem b (Written.switch (h refl, omega arith)))
+number_done_lem n (fault {p = p} b) h i = rw (append_assoc p (bytes "f") (numeral n)) (operand_done_lem b (Written.fault (h refl, omega arith)))
+number_done_lem n (literal {w = w} minus u j) h i = ended (literal_added minus n u (h refl, omega arith)) (omega (arith, length_snoc w (number minus n))) (omega (arith, length_snoc w (number minus n)))
+number_done_lem n (weight {v = v} {w = w} {p = p} u j k) h i =
+    let l : Legal (add_wish v (wishOf w n)) (p ++ bytes " weight " ++ numeral n ++ feed) = rw (append_assoc (p ++ bytes " weight ") (numeral n) feed, append_assoc p (bytes " weight ") (numeral n ++ feed)) (wish_added u j k (Weight.stated {n = n} (omega arith))) in
+    word {w = feed} (omega arith) (wish_line l)
+
+-- or may have one more digit
+grown_reached : {slot : Slot} {p : List ℕ} (n : ℕ) → Asked slot p → 1 ≤ n → n < room slot * 10 → Reached (grown slot n) (p ++ numeral n)
+unfolding grown
+grown_reached {slot} {p} n h i l = go (ltb n (room slot)) refl
+  where
+    go : (t : Bool) → ltb n (room slot) ≡ t → Reached (cond t (State.further slot n) (number_done slot n)) (p ++ numeral n)
+    go true e = further h i (ltb-true n (room slot) e)
+    go false e = number_done_lem n h (λ z. i) l
 
 -- ---- one more byte
 
@@ -268,25 +291,40 @@ word_moves b [] st p r = tt
 word_moves b (c ∷ []) st p r = arms_on p b ((c, some st) ∷ []) (r, tt)
 word_moves b (c ∷ d ∷ w) st p r = arms_on p b ((c, some (State.word (d ∷ w) st)) ∷ []) (word (omega arith) (rw append_snoc r), tt)
 
-digit_reached : (b : ℕ) (slot : Slot) (p : List ℕ) → Asked slot p → b ≢ code "0" → is_digit b ≡ true → Reached (State.second slot (digit_of b)) (p ++ b ∷ [])
+digit_reached : (b : ℕ) (slot : Slot) (p : List ℕ) → Asked slot p → b ≢ code "0" → is_digit b ≡ true → Reached (State.further slot (digit_of b)) (p ++ b ∷ [])
 digit_reached b slot p h ne e =
     let (i, j) = digit_byte b e in
-    let d : digit (digit_of b) ≡ b = omega arith in
-    subst (λ c. Reached (State.second slot (digit_of b)) (p ++ c ∷ [])) d (second h (omega arith, omega arith))
+    subst (λ s. Reached (State.further slot (digit_of b)) (p ++ s)) (one_digit b i j) (further h (omega arith) (omega (arith, room_between slot)))
 
 -- a 0 is all of its number
 digit_moves : (b : ℕ) (slot : Slot) (p : List ℕ) → Asked slot p → Next (p ++ b ∷ []) (move (State.digits slot) b)
 unfolding move decimal
-digit_moves b slot p h = next_cond (p ++ b ∷ []) (eqb b (code "0")) (when (zero_ok slot) (number_done slot 0)) (when (is_digit b) (State.second slot (digit_of b)))
-    (λ e. next_when (p ++ b ∷ []) (zero_ok slot) (number_done slot 0) (λ z. rw (eqb-true b (code "0") e) (number_done_lem 0 h (λ f. clash z f) (omega arith))))
-    (λ e. next_when (p ++ b ∷ []) (is_digit b) (State.second slot (digit_of b)) (digit_reached b slot p h (eqb-false b (code "0") e)))
+digit_moves b slot p h = next_cond (p ++ b ∷ []) (eqb b (code "0")) (when (zero_ok slot) (number_done slot 0)) (when (is_digit b) (State.further slot (digit_of b)))
+    (λ e. next_when (p ++ b ∷ []) (zero_ok slot) (number_done slot 0) (λ z. rw (eqb-true b (code "0") e) (number_done_lem 0 h (λ f. clash z f) (omega (arith, room_between slot)))))
+    (λ e. next_when (p ++ b ∷ []) (is_digit b) (State.further slot (digit_of b)) (digit_reached b slot p h (eqb-false b (code "0") e)))
+
+-- a literal after a space
+literal_arms_lem : {v : Typed} {w : Clause} {p : List ℕ} → Wishing v w p → length w < most_literals → Arms (p ++ bytes " ") (literal_arms v w)
+literal_arms_lem {v} {w} {p} h i =
+    let plain : Asked (Slot.literal v w false) (p ++ bytes " " ++ bytes "s") = rw append_snoc (literal false h i) in
+    let negated : Asked (Slot.literal v w true) (p ++ bytes " " ++ bytes "!" ++ bytes "s") = simp append_assoc (literal true h i) in
+    (digits plain, (word {w = bytes "s"} (omega arith) (digits negated), tt))
+
+-- or a weight
+another_moves : (b : ℕ) {v : Typed} {w : Clause} (p : List ℕ) → Wishing v w p → 1 ≤ length w → length w ≤ most_literals → Next (p ++ bytes " " ++ b ∷ []) (move (State.another v w) b)
+unfolding move
+another_moves b {v} {w} p u h i = arms_on (p ++ bytes " ") b ((code "w", some (State.word (bytes "eight ") (State.digits (Slot.weight v w)))) ∷ cond (ltb (length w) most_literals) (literal_arms v w) []) (word {w = bytes "eight "} (omega arith) (digits (simp append_assoc (weight u h i))), go (ltb (length w) most_literals) refl)
+  where
+    go : (t : Bool) → ltb (length w) most_literals ≡ t → Arms (p ++ bytes " ") (cond t (literal_arms v w) [])
+    go true e = literal_arms_lem u (ltb-true (length w) most_literals e)
+    go false e = tt
 
 -- by the state: each of its arms puts one byte behind the text, and what is said of the next state holds with it
 move_reached : (b : ℕ) {st : State} {p : List ℕ} → Reached st p → Next (p ++ b ∷ []) (move st b)
 unfolding move
 move_reached b (word {w = w} {st = st} {p = p} h r) = word_moves b w st p r
 move_reached b (digits {slot = slot} {p = p} h) = digit_moves b slot p h
-move_reached b (second h i) = tt
+move_reached b (further h i l) = tt
 move_reached b (rule_line {v = v} {p = p} l e) = arms_on p b ((code "r", some (State.word (bytes "ule ") (State.operand (Around.head (Around.first (Around.line v)))))) ∷ (code "w", some (State.word (bytes "ish ") (State.wish v []))) ∷ [])
     (word {w = bytes "ule "} (omega arith) (rw append_snoc (operand (head (first (line l e))))), (wish_begun l, tt))
 move_reached b (wish_line {v = v} {p = p} l) = arms_on p b ((code "w", some (State.word (bytes "ish ") (State.wish v []))) ∷ []) (wish_begun l, tt)
@@ -294,27 +332,26 @@ move_reached b (spaced {k = k} {d = d} {p = p} h i) = arms_on p b ((code " ", so
 move_reached b (operand {k = k} {d = d} {p = p} h) = arms_on p b (operand_arms k) (operand_arms_lem k d p h)
 move_reached b (after {a = a} {x = x} {p = p} {s = s} h w) = arms_on (p ++ s) b ((code " ", some (State.sign a x)) ∷ (code "\n", fed (outside a) (joined_or a x)) ∷ sign_arms a x) (sign h w, (fed_reached (join h w), subst (λ q. Arms q (sign_arms a x)) (append-nil (p ++ s)) (sign_arms_lem h w Gap.none)))
 move_reached b (sign {a = a} {x = x} {p = p} {s = s} h w) = arms_on (p ++ s ++ bytes " ") b (sign_arms a x) (sign_arms_lem h w Gap.space)
-move_reached b (wish {v = v} {w = w} {p = p} h i) = arms_on (p ++ bytes " ") b ((code "s", some (State.digits (Slot.literal v w false))) ∷ (code "!", some (State.word (bytes "s") (State.digits (Slot.literal v w true)))) ∷ [])
-    (digits (rw append_snoc (literal false h i)), (word {w = bytes "s"} (omega arith) (digits (simp append_assoc (literal true h i))), tt))
-move_reached b (ended {v = v} {w = w} {p = p} u h i) = arms_on p b ((code " ", when (ltb (length w) most_literals) (State.wish v w)) ∷ (code "\n", some (State.wish_line (add_wish v w))) ∷ [])
-    (next_when (p ++ bytes " ") (ltb (length w) most_literals) (State.wish v w) (λ e. wish u (ltb-true (length w) most_literals e)), (wish_line (rw u.text (wish_added u.are w (h, i, u.literals))), tt))
+move_reached b (wish {v = v} {w = w} {p = p} h i) = arms_on (p ++ bytes " ") b (literal_arms v w) (literal_arms_lem h i)
+move_reached b (ended {v = v} {w = w} {p = p} u h i) = arms_on p b ((code " ", some (State.another v w)) ∷ (code "\n", some (State.wish_line (add_wish v (wishOf w 1)))) ∷ []) (another u h i, (wish_line (wish_added u h i Weight.missing), tt))
+move_reached b (another {v = v} {w = w} {p = p} u h i) = another_moves b p u h i
 
--- a second digit, or the number is complete
-module _ (b : ℕ) (slot : Slot) (n : ℕ) (p : List ℕ) (h : Asked slot p) (i : Among 9 n) where
-  second_reached : is_digit b ≡ true → Reached (number_done slot (n * 10 + digit_of b)) (p ++ digit n ∷ [] ++ b ∷ [])
-  second_reached e =
-      let (u, l) = digit_byte b e in
-      rw append_snoc (subst (λ s. Reached (number_done slot (n * 10 + digit_of b)) (p ++ s)) (two_digits n b i.0 i.1 u l) (number_done_lem (n * 10 + digit_of b) h (λ z. omega arith) (omega arith)))
+-- one more digit, or the number is complete
+module _ (b : ℕ) (slot : Slot) (n : ℕ) (p : List ℕ) (h : Asked slot p) (i : 1 ≤ n) (l : n < room slot) where
+  further_reached : is_digit b ≡ true → Reached (grown slot (n * 10 + digit_of b)) (p ++ numeral n ++ b ∷ [])
+  further_reached e =
+      let (u, v) = digit_byte b e in
+      rw append_assoc (subst (λ s. Reached (grown slot (n * 10 + digit_of b)) (p ++ s)) (more_digits n b i (omega (arith, room_between slot)) u v) (grown_reached (n * 10 + digit_of b) h (omega arith) (omega arith)))
 
-  second_steps : Next (p ++ digit n ∷ [] ++ b ∷ []) (step (State.second slot n) b)
+  further_steps : Next (p ++ numeral n ++ b ∷ []) (step (State.further slot n) b)
   unfolding step
-  second_steps = next_cond (p ++ digit n ∷ [] ++ b ∷ []) (is_digit b) (some (number_done slot (n * 10 + digit_of b))) (move (number_done slot n) b)
-      second_reached
-      (λ e. subst (λ s. Next (p ++ s ++ b ∷ []) (move (number_done slot n) b)) (one_digit n i.1) (move_reached b (number_done_lem n h (λ z. i.0) (omega arith))))
+  further_steps = next_cond (p ++ numeral n ++ b ∷ []) (is_digit b) (some (grown slot (n * 10 + digit_of b))) (move (number_done slot n) b)
+      further_reached
+      (λ e. move_reached b (number_done_lem n h (λ z. i) (omega (arith, room_between slot))))
 
 pub step_reached : (b : ℕ) (st : State) (p : List ℕ) → Reached st p → Next (p ++ b ∷ []) (step st b)
 unfolding step
-step_reached b (State.second slot n) p (second {p = q} h i) = second_steps b slot n q h i
+step_reached b (State.further slot n) p (further {p = q} h i l) = further_steps b slot n q h i l
 step_reached b (State.word w st) p r = move_reached b r
 step_reached b (State.digits slot) p r = move_reached b r
 step_reached b (State.rule_line v) p r = move_reached b r
@@ -325,3 +362,4 @@ step_reached b (State.after a x) p r = move_reached b r
 step_reached b (State.sign a x) p r = move_reached b r
 step_reached b (State.wish v w) p r = move_reached b r
 step_reached b (State.ended v w) p r = move_reached b r
+step_reached b (State.another v w) p r = move_reached b r

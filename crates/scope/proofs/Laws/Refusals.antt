@@ -5,13 +5,14 @@ use Rattle.std.proofs.Math.Nat.{zero-add}
 use native.Mathlib.Omega.{arith}
 use Rattle.std.specs.Prelude.{Bool, true, false, not, ◌&&◌, List, [], ◌∷◌, ◌↔◌, ◌≢◌, ◌⊎◌, ◌≡◌, refl, eqb, length, drop}
 use Rattle.std.proofs.Math.Option.{Option, none, some, none-ne-some, some-injective}
-use Rattle.scope.specs.Sheet.{Number, Sheet, Letter, H, N, A, O, R, W, Z, Line, most_switches, most_faults, All}
+use Rattle.scope.specs.Sheet.{Number, Sheet, Letter, H, N, A, O, R, W, Z, Line, Layout, plain, weighted, field_count, most_switches, most_faults, All}
 use Rattle.scope.specs.Causes.{up_to, at, zeros, Test, tests, started, accepted, refused, line_size, length_ok, line_count, bytes_at, Met, First, here, later}
-use Rattle.scope.specs.Sheets.{SheetRefusal, wrong_length, malformed, wrong_letter, out_of_range, too_many, wrong_field, wrong_count}
+use Rattle.scope.specs.Sheets.{SheetRefusal, wrong_length, malformed, wrong_letter, out_of_range, too_many, wrong_field, wrong_count, wrong_weight}
 use Rattle.scope.specs.Reading.{first_fault, tests_of, line_of, line_at, column_at, tests_at, read_from, read}
 use Rattle.scope.proofs.Laws.Scans.{Column, stopped, well_formed, before, Passed, Cause, size, line, NoCause}
-use Rattle.scope.proofs.Laws.Tests.{both, up_to_lem}
+use Rattle.scope.proofs.Laws.Tests.{clash, both, up_to_lem}
 use Rattle.scope.proofs.Laws.Lists.{part_length}
+use Rattle.scope.proofs.Laws.Alls.{all_imply}
 use Rattle.scope.proofs.Laws.Lines.{line_iff}
 use Rattle.scope.proofs.Laws.Beginnings.{stops_within, column_is, column_found}
 
@@ -40,39 +41,42 @@ first_some (later f) = first_some f
 pub not_both : {t : Sheet} {c place column : ℕ} → accepted t ≢ refused c place column
 not_both e = let z : ◌≡◌ {A = ℕ} 0 1 = cc in omega arith
 
-module _ (n : ℕ) (s : List ℕ) where
+module _ (y : Layout) (s : List ℕ) where
+  abbrev n : ℕ
+  n = field_count y
+
   -- a first line that does not pass, or none below m
   data Search (m : ℕ) : Type 0 where
-    all : ((j : ℕ) → j < m → Passed n s j) → Search m
-    stop : (c k : ℕ) → k < m → ((j : ℕ) → j < k → Passed n s j) → First c (tests_at n s (before n s k) k) → Search m
+    all : ((j : ℕ) → j < m → Passed y s j) → Search m
+    stop : (c k : ℕ) → k < m → ((j : ℕ) → j < k → Passed y s j) → First c (tests_at y s (before y s k) k) → Search m
 
   search_lines : (m : ℕ) → Search m
   search_lines zero = all (λ j h. absurd (omega arith))
   search_lines (suc m) = go (search_lines m)
     where
-      test : ((j : ℕ) → j < m → Passed n s j) → (o : Option ℕ) → first_fault (tests_at n s (before n s m) m) ≡ o → Search (suc m)
-      test p none e = all (up_to_lem m p (met (tests_at n s (before n s m) m) e))
-      test p (some c) e = stop c m (omega arith) p (first c (tests_at n s (before n s m) m) e)
+      test : ((j : ℕ) → j < m → Passed y s j) → (o : Option ℕ) → first_fault (tests_at y s (before y s m) m) ≡ o → Search (suc m)
+      test p none e = all (up_to_lem m p (met (tests_at y s (before y s m) m) e))
+      test p (some c) e = stop c m (omega arith) p (first c (tests_at y s (before y s m) m) e)
 
       go : Search m → Search (suc m)
-      go (all p) = test p (first_fault (tests_at n s (before n s m) m)) refl
+      go (all p) = test p (first_fault (tests_at y s (before y s m) m)) refl
       go (stop c k h p f) = stop c k (omega arith) p f
 
   -- reading goes on from line k once the lines before it are passed
-  reach : (k m : ℕ) → ((j : ℕ) → j < k → Passed n s j) → read_from n s (k + m) 0 (started 0 0) ≡ read_from n s m k (before n s k)
+  reach : (k m : ℕ) → ((j : ℕ) → j < k → Passed y s j) → read_from y s (k + m) 0 (started 0 0) ≡ read_from y s m k (before y s k)
   unfolding read_from before
   reach zero m p = rw zero-add
   reach (suc k) m p =
       let i : suc k + m ≡ k + suc m = omega arith in
-      rw i (reach k (suc m) (λ j h. p j (omega arith)) ∙ rw (met_none (tests_at n s (before n s k) k) (p k (omega arith))))
+      rw i (reach k (suc m) (λ j h. p j (omega arith)) ∙ rw (met_none (tests_at y s (before y s k) k) (p k (omega arith))))
 
   -- ---- the sheet
 
-  pub no_cause_accepts : NoCause n s → read n s ≡ accepted (before n s (line_count n s))
+  pub no_cause_accepts : NoCause y s → read y s ≡ accepted (before y s (line_count n s))
   unfolding read read_from
-  no_cause_accepts h = rw h.size (ap (λ m. read_from n s m 0 (started 0 0)) (sym (add-zero (line_count n s))) ∙ reach (line_count n s) 0 h.lines)
+  no_cause_accepts h = rw h.size (ap (λ m. read_from y s m 0 (started 0 0)) (sym (add-zero (line_count n s))) ∙ reach (line_count n s) 0 h.lines)
 
-  pub cause_refuses : {c place column : ℕ} → Cause n s c place column → read n s ≡ refused c place column
+  pub cause_refuses : {c place column : ℕ} → Cause y s c place column → read y s ≡ refused c place column
   unfolding read read_from column_at
   cause_refuses (size h) = rw h
   cause_refuses (line {c} {column} k h l p f w) =
@@ -87,14 +91,14 @@ module _ (n : ℕ) (s : List ℕ) where
   pub whole_line : (k : ℕ) → k < line_count n s → length (bytes_at n s k) ≡ line_size n
   whole_line k h = part_length s (k * line_size n) (line_size n) (line_within k h)
 
-  pub column_of_lem : (k : ℕ) → k < line_count n s → Column n (bytes_at n s k) (column_at n s k)
+  pub column_of_lem : (k : ℕ) → k < line_count n s → Column n (bytes_at n s k) (column_at y s k)
   unfolding column_at
   column_of_lem k h = column_found n (bytes_at n s k) (omega (arith, whole_line k h))
 
   -- one of the two is there
   data Told : Type 0 where
-    fine : NoCause n s → Told
-    turned : (c place column : ℕ) → Cause n s c place column → Told
+    fine : NoCause y s → Told
+    turned : (c place column : ℕ) → Cause y s c place column → Told
 
   told : Told
   told = go (length_ok n (length s)) refl
@@ -105,35 +109,39 @@ module _ (n : ℕ) (s : List ℕ) where
         where
           lines : Search (line_count n s) → Told
           lines (all p) = fine record { size = e; lines = p }
-          lines (stop c k h p f) = turned c (suc k) (column_at n s k) (line k e h p f (column_of_lem k h))
+          lines (stop c k h p f) = turned c (suc k) (column_at y s k) (line k e h p f (column_of_lem k h))
 
-  pub refused_iff : (c place column : ℕ) → (read n s ≡ refused c place column) ↔ Cause n s c place column
+  pub refused_iff : (c place column : ℕ) → (read y s ≡ refused c place column) ↔ Cause y s c place column
   refused_iff c place column = (λ e. go told e, cause_refuses)
     where
-      go : Told → read n s ≡ refused c place column → Cause n s c place column
+      go : Told → read y s ≡ refused c place column → Cause y s c place column
       go (fine h) e = absurd (not_both (sym (no_cause_accepts h) ∙ e))
       go (turned d p q h) e =
           let f : refused d p q ≡ refused c place column = sym (cause_refuses h) ∙ e in
           let a : d ≡ c = cc in
           let b : p ≡ place = cc in
           let g : q ≡ column = cc in
-          subst (Cause n s c place) g (subst₂ (λ x y. Cause n s x y q) a b h)
+          subst (Cause y s c place) g (subst₂ (λ u v. Cause y s u v q) a b h)
 
-  pub accepted_iff : (t : Sheet) → (read n s ≡ accepted t) ↔ (NoCause n s × (t ≡ before n s (line_count n s)))
+  pub accepted_iff : (t : Sheet) → (read y s ≡ accepted t) ↔ (NoCause y s × (t ≡ before y s (line_count n s)))
   accepted_iff t = (λ e. go told e, λ (h, e). no_cause_accepts h ∙ ap accepted (sym e))
     where
-      go : Told → read n s ≡ accepted t → NoCause n s × (t ≡ before n s (line_count n s))
-      go (fine h) e = let f : accepted (before n s (line_count n s)) ≡ accepted t = sym (no_cause_accepts h) ∙ e in (h, cc)
+      go : Told → read y s ≡ accepted t → NoCause y s × (t ≡ before y s (line_count n s))
+      go (fine h) e = let f : accepted (before y s (line_count n s)) ≡ accepted t = sym (no_cause_accepts h) ∙ e in (h, cc)
       go (turned c p q h) e = absurd (not_both (sym e ∙ cause_refuses h))
 
 -- ---- which numbers
 
-pub first_in : (P : ℕ → Type 0) (rs : List Test) → All (λ r. P r.0) rs → {c : ℕ} → First c rs → P c
-first_in P rs a f = go f a
+-- what holds of the number of every test that is not met holds of the first such
+first_unmet : (P : ℕ → Type 0) (rs : List Test) → All (λ r. r.1 ≡ false → P r.0) rs → {c : ℕ} → First c rs → P c
+first_unmet P rs a f = go f a
   where
-    go : {c : ℕ} {rs : List Test} → First c rs → All (λ r. P r.0) rs → P c
-    go here (p, a) = p
+    go : {c : ℕ} {rs : List Test} → First c rs → All (λ r. r.1 ≡ false → P r.0) rs → P c
+    go here (p, a) = p refl
     go (later f) (p, a) = go f a
+
+pub first_in : (P : ℕ → Type 0) (rs : List Test) → All (λ r. P r.0) rs → {c : ℕ} → First c rs → P c
+first_in P rs a = first_unmet P rs (all_imply (λ r. P r.0) (λ r. r.1 ≡ false → P r.0) (λ r p e. p) rs a)
 
 -- past the first test, which is met if it is not the one
 first_cons : (m : ℕ) (b : Bool) (rs : List Test) {c : ℕ} → First c ((m, b) ∷ rs) → (c ≡ m) ⊎ ((b ≡ true) × First c rs)
@@ -146,49 +154,60 @@ first_cons m false rs f = inl (head f)
     head : {c : ℕ} → First c ((m, false) ∷ rs) → c ≡ m
     head here = refl
 
--- every test has one of these numbers; 4 is told of line 1 alone, since the test before it asks that H be the first line
-letter_number : (w : ℕ) (t : Sheet) (k : ℕ) (last : Bool) (c : Letter) (xs : List Number) {m : ℕ} → First m (tests t k last c xs) → SheetRefusal w m (suc k) 0
+-- a wish whose weight is not written weighs 1, so that 14 is not for it
+wish_number : (y : Layout) (t : Sheet) (k : ℕ) (last : Bool) (xs : List Number) {m : ℕ} → First m (tests y t k last W xs) → SheetRefusal y m (suc k) 0
 unfolding tests
-letter_number w t k last H xs {m} f = go (first_cons 3 (eqb k 0 && not last) ((4, up_to most_switches (at xs 0) && up_to most_faults (at xs 1)) ∷ (6, zeros (drop 2 xs)) ∷ []) f)
+wish_number plain t k last xs f = first_unmet (λ c. SheetRefusal plain c (suc k) 0) (tests plain t k last W xs) (λ e. wrong_letter, (λ e. too_many, (λ e. wrong_field, (λ e. clash refl e, tt)))) f
+wish_number weighted t k last xs f = first_in (λ c. SheetRefusal weighted c (suc k) 0) (tests weighted t k last W xs) (wrong_letter, (too_many, (wrong_field, (wrong_weight, tt)))) f
+
+-- every test has one of these numbers; 4 is told of line 1 alone, since the test before it asks that H be the first line
+letter_number : (y : Layout) (t : Sheet) (k : ℕ) (last : Bool) (c : Letter) (xs : List Number) {m : ℕ} → First m (tests y t k last c xs) → SheetRefusal y m (suc k) 0
+unfolding tests
+letter_number y t k last H xs {m} f = go (first_cons 3 (eqb k 0 && not last) ((4, up_to most_switches (at xs 0) && up_to most_faults (at xs 1)) ∷ (6, zeros (drop 2 xs)) ∷ []) f)
   where
-    go : (m ≡ 3) ⊎ (((eqb k 0 && not last) ≡ true) × First m ((4, up_to most_switches (at xs 0) && up_to most_faults (at xs 1)) ∷ (6, zeros (drop 2 xs)) ∷ [])) → SheetRefusal w m (suc k) 0
+    go : (m ≡ 3) ⊎ (((eqb k 0 && not last) ≡ true) × First m ((4, up_to most_switches (at xs 0) && up_to most_faults (at xs 1)) ∷ (6, zeros (drop 2 xs)) ∷ [])) → SheetRefusal y m (suc k) 0
     go (inl e) = rw e wrong_letter
-    go (inr (b, g)) = let z : k ≡ 0 = eqb-true k 0 (both (eqb k 0) (not last) b).0 in rw z (first_in (λ c. SheetRefusal w c 1 0) ((4, up_to most_switches (at xs 0) && up_to most_faults (at xs 1)) ∷ (6, zeros (drop 2 xs)) ∷ []) (out_of_range, (wrong_field, tt)) g)
-letter_number w t k last N xs f = first_in (λ c. SheetRefusal w c (suc k) 0) (tests t k last N xs) (wrong_letter, (too_many, (wrong_field, tt))) f
-letter_number w t k last A xs f = first_in (λ c. SheetRefusal w c (suc k) 0) (tests t k last A xs) (wrong_letter, (too_many, (wrong_field, tt))) f
-letter_number w t k last O xs f = first_in (λ c. SheetRefusal w c (suc k) 0) (tests t k last O xs) (wrong_letter, (too_many, (wrong_field, tt))) f
-letter_number w t k last R xs f = first_in (λ c. SheetRefusal w c (suc k) 0) (tests t k last R xs) (wrong_letter, (too_many, (wrong_field, tt))) f
-letter_number w t k last W xs f = first_in (λ c. SheetRefusal w c (suc k) 0) (tests t k last W xs) (wrong_letter, (too_many, (wrong_field, tt))) f
-letter_number w t k last Z xs f = first_in (λ c. SheetRefusal w c (suc k) 0) (tests t k last Z xs) (wrong_letter, (wrong_field, (wrong_count, tt))) f
+    go (inr (b, g)) = let z : k ≡ 0 = eqb-true k 0 (both (eqb k 0) (not last) b).0 in rw z (first_in (λ c. SheetRefusal y c 1 0) ((4, up_to most_switches (at xs 0) && up_to most_faults (at xs 1)) ∷ (6, zeros (drop 2 xs)) ∷ []) (out_of_range, (wrong_field, tt)) g)
+letter_number y t k last N xs f = first_in (λ c. SheetRefusal y c (suc k) 0) (tests y t k last N xs) (wrong_letter, (too_many, (wrong_field, tt))) f
+letter_number y t k last A xs f = first_in (λ c. SheetRefusal y c (suc k) 0) (tests y t k last A xs) (wrong_letter, (too_many, (wrong_field, tt))) f
+letter_number y t k last O xs f = first_in (λ c. SheetRefusal y c (suc k) 0) (tests y t k last O xs) (wrong_letter, (too_many, (wrong_field, tt))) f
+letter_number y t k last R xs f = first_in (λ c. SheetRefusal y c (suc k) 0) (tests y t k last R xs) (wrong_letter, (too_many, (wrong_field, tt))) f
+letter_number y t k last W xs f = wish_number y t k last xs f
+letter_number y t k last Z xs f = first_in (λ c. SheetRefusal y c (suc k) 0) (tests y t k last Z xs) (wrong_letter, (wrong_field, (wrong_count, tt))) f
 
 -- 2 is the number of a line that stops, and all others are of well-formed ones
-tests_number : (n : ℕ) (t : Sheet) (k : ℕ) (last : Bool) (s : List ℕ) → length s ≡ line_size n → {m column : ℕ} → First m (tests_of t k last (line_of n s)) → Column n s column → SheetRefusal n m (suc k) column
-tests_number n t k last s l f w = go (line_of n s) refl f w
+tests_number : (y : Layout) (t : Sheet) (k : ℕ) (last : Bool) (s : List ℕ) → length s ≡ line_size (field_count y) → {m column : ℕ} → First m (tests_of y t k last (line_of (field_count y) s)) → Column (field_count y) s column → SheetRefusal y m (suc k) column
+tests_number y t k last s l f w = go (line_of n s) refl f w
   where
-    stop : {c : ℕ} → line_of n s ≡ none → Column n s c → SheetRefusal n 2 (suc k) c
+    n : ℕ
+    n = field_count y
+
+    stop : {c : ℕ} → line_of n s ≡ none → Column n s c → SheetRefusal y 2 (suc k) c
     stop e (stopped {c} h) = within c (stops_within n s c h)
       where
-        within : (c : ℕ) → (1 ≤ c) × (c ≤ length s) → SheetRefusal n 2 (suc k) c
+        within : (c : ℕ) → (1 ≤ c) × (c ≤ length s) → SheetRefusal y 2 (suc k) c
         within zero (a, b) = absurd (omega arith)
-        within (suc c) (a, b) = malformed {c = c} (omega arith)
+        within (suc c) (a, b) = malformed {y = y} {c = c} (omega arith)
     stop e (well_formed x h) = absurd (none-ne-some x (sym e ∙ (line_iff n s x).1 h))
 
-    go : {m c : ℕ} (o : Option Line) → line_of n s ≡ o → First m (tests_of t k last o) → Column n s c → SheetRefusal n m (suc k) c
+    go : {m c : ℕ} (o : Option Line) → line_of n s ≡ o → First m (tests_of y t k last o) → Column n s c → SheetRefusal y m (suc k) c
     go none e here w = stop e w
     go {c} (some x) e f w =
         let z : c ≡ 0 = sym (column_is n s c w) ∙ column_is n s 0 (well_formed x ((line_iff n s x).0 e)) in
-        rw z (letter_number n t k last x.letter x.fields f)
+        rw z (letter_number y t k last x.letter x.fields f)
 
-pub cause_number : (n : ℕ) (s : List ℕ) {c place column : ℕ} → Cause n s c place column → SheetRefusal n c place column
+pub cause_number : (y : Layout) (s : List ℕ) {c place column : ℕ} → Cause y s c place column → SheetRefusal y c place column
 unfolding tests_at line_at
-cause_number n s (size h) = wrong_length
-cause_number n s (line k h l p f w) = tests_number n (before n s k) k (eqb (suc k) (line_count n s)) (bytes_at n s k) (whole_line n s k l) f w
+cause_number y s (size h) = wrong_length
+cause_number y s (line k h l p f w) = tests_number y (before y s k) k (eqb (suc k) (line_count (field_count y) s)) (bytes_at (field_count y) s k) (whole_line y s k l) f w
 
-pub figures_within : {n c place column : ℕ} → SheetRefusal n c place column → (1 ≤ c) × (c ≤ 7) × (column ≤ line_size n)
-figures_within wrong_length = (omega arith, omega arith, omega arith)
-figures_within (malformed h) = (omega arith, omega arith, omega arith)
-figures_within wrong_letter = (omega arith, omega arith, omega arith)
-figures_within out_of_range = (omega arith, omega arith, omega arith)
-figures_within too_many = (omega arith, omega arith, omega arith)
-figures_within wrong_field = (omega arith, omega arith, omega arith)
-figures_within wrong_count = (omega arith, omega arith, omega arith)
+-- 1 to 7 and 14, none of which is a job's own
+pub figures_within : {y : Layout} {c place column : ℕ} → SheetRefusal y c place column → (1 ≤ c) × (8 ≤ c → c ≡ 14) × (c ≤ 14) × (column ≤ line_size (field_count y))
+figures_within wrong_length = (omega arith, λ h. absurd (omega arith), omega arith, omega arith)
+figures_within (malformed h) = (omega arith, λ h. absurd (omega arith), omega arith, omega arith)
+figures_within wrong_letter = (omega arith, λ h. absurd (omega arith), omega arith, omega arith)
+figures_within out_of_range = (omega arith, λ h. absurd (omega arith), omega arith, omega arith)
+figures_within too_many = (omega arith, λ h. absurd (omega arith), omega arith, omega arith)
+figures_within wrong_field = (omega arith, λ h. absurd (omega arith), omega arith, omega arith)
+figures_within wrong_count = (omega arith, λ h. absurd (omega arith), omega arith, omega arith)
+figures_within wrong_weight = (omega arith, λ h. refl, omega arith, omega arith)

@@ -7,17 +7,18 @@ use mathlib.Core.List.{List, [], ◌∷◌, ◌++◌}
 use Rattle.std.proofs.Math.Path.{refl, ap}
 use Rattle.std.proofs.Math.ListN.{length, length-append}
 use borrow.Author.Tests.{leb-true, ltb-true}
-use Rattle.scope.specs.Sheet.{Clause, Gate, Sheet, All, Among, Names, Ordered, Wish, Valid, most_switches, most_faults, most_gates, most_rules, most_wishes}
+use Rattle.scope.specs.Sheet.{plus, Clause, Gate, Wish, Sheet, All, Among, Names, Ordered, Allowed, Valid, most_switches, most_faults, most_gates, most_rules, most_wishes, most_weight}
 use Rattle.scope.specs.Causes.{Test, Met, Read}
 use Rattle.scope.specs.Causes as reading
 use Rattle.scope.specs.Source.{Refusal, Source}
 use Rattle.scope.specs.Meaning.{all}
-use Rattle.scope.specs.Typed.{Formula, Typed, Level, Written, RuleLines, Writable, Legal, most_text, most_number, wish_lines, operators, point, gates_of, all_gates, all_points, known, rule_tests, wish_tests, line_tests, sheet_of}
-use Rattle.scope.specs.Texts.{FirstLine, TextRead, too_long, not_legal, at_fault, accepted, TextRefusal, overlong, illegal, switches_out_of_range, faults_out_of_range, too_many, not_on_sheet}
+use Rattle.scope.specs.Typed.{Formula, Typed, Level, Written, RuleLines, WishLines, Legal, most_text, most_number, operators, point, gates_of, all_gates, all_points, known, rule_tests, wish_tests, line_tests, sheet_of}
+use Rattle.scope.specs.Texts.{FirstLine, TextRead, too_long, not_legal, at_fault, accepted, TextRefusal, overlong, illegal, switches_out_of_range, faults_out_of_range, too_many, not_on_sheet, wrong_weight}
 use Rattle.scope.proofs.Laws.Tests.{both}
 use Rattle.scope.proofs.Laws.Alls.{all_append, all_parts}
 use Rattle.scope.proofs.Laws.Gates.{ordered_append}
 use Rattle.scope.proofs.Laws.Refusals.{first_in}
+use Rattle.scope.proofs.Laws.Steps.{point_plus}
 
 -- ---- rules, with a switches and f faults
 module _ (a f : ℕ) where
@@ -125,16 +126,16 @@ literals_among a (x ∷ w) ((low, high), h) e = let (p, q) = both (leb x.size a)
 
 module _ (a f : ℕ) where
   -- that of 5
-  wishes_few : (j : ℕ) (ws : List Clause) → j ≤ most_wishes → All Met (wish_tests a f j ws) → j + length ws ≤ most_wishes
+  wishes_few : (j : ℕ) (ws : List Wish) → j ≤ most_wishes → All Met (wish_tests a f j ws) → j + length ws ≤ most_wishes
   unfolding wish_tests
   wishes_few j [] l m = omega arith
   wishes_few j (w ∷ ws) l ((c, k), m) = omega (arith, wishes_few (suc j) ws (ltb-true j most_wishes c) m)
 
-  -- that of 6
-  wishes_on_sheet : (j : ℕ) (ws : List Clause) → All Writable ws → All Met (wish_tests a f j ws) → All (Wish a) ws
+  -- those of 6 and 14
+  wishes_allowed : (j : ℕ) {ws : List Wish} {s : List ℕ} → WishLines ws s → All Met (wish_tests a f j ws) → All (Allowed a) ws
   unfolding wish_tests
-  wishes_on_sheet j [] h m = tt
-  wishes_on_sheet j (w ∷ ws) ((some, few, among), h) ((c, (k, t)), m) = ((few, literals_among a w among k), wishes_on_sheet (suc j) ws h m)
+  wishes_allowed j WishLines.none m = tt
+  wishes_allowed j (WishLines.next {w} (some, few, among) h r) ((c, (k, (i, t))), m) = (record { few = few; literals = literals_among a w.clause among k; weight = (point_plus most_weight (plus w.weight) i).1 }, wishes_allowed (suc j) r m)
 
 -- ---- the sheet
 
@@ -158,7 +159,7 @@ sheet_valid v s l m =
       few_wishes = omega (arith, wishes_few a f 0 v.wishes (omega arith) w);
       gates = rw add-zero at (all_ordered a f 0 v.rules known);
       rules = points_among a f (length (all_gates a f 0 v.rules)) 0 v.rules (omega arith) known;
-      wishes = wishes_on_sheet a f 0 v.wishes l.wishes w;
+      wishes = wishes_allowed a f 0 l.wished w;
     }
 
 -- ---- a refusal's place: a line is at least its line feed, so a text has no more lines than bytes
@@ -169,20 +170,20 @@ module _ (a f : ℕ) where
   rules_long n i RuleLines.none = omega arith
   rules_long n i (RuleLines.next {x} w r) = simp length-append (omega (arith, rules_long (n + operators x) (suc i) r))
 
-  wishes_long : (j : ℕ) (ws : List Clause) → length (wish_tests a f j ws) ≤ length (wish_lines ws)
-  unfolding wish_tests wish_lines
-  wishes_long j [] = omega arith
-  wishes_long j (w ∷ ws) = simp length-append (omega (arith, wishes_long (suc j) ws))
+  wishes_long : (j : ℕ) {ws : List Wish} {s : List ℕ} → WishLines ws s → length (wish_tests a f j ws) ≤ length s
+  unfolding wish_tests
+  wishes_long j WishLines.none = omega arith
+  wishes_long j (WishLines.next h i r) = simp length-append (omega (arith, wishes_long (suc j) r))
 
 lines_long : (v : Typed) (s : List ℕ) → Legal v s → length (line_tests v) ≤ length s
 unfolding line_tests
-lines_long v s l = rw l.text (simp length-append (omega (arith, rules_long v.switches v.faults 0 0 l.written, wishes_long v.switches v.faults 0 v.wishes)))
+lines_long v s l = rw l.text (simp length-append (omega (arith, rules_long v.switches v.faults 0 0 l.written, wishes_long v.switches v.faults 0 l.wished)))
 
 fault_within : {c k : ℕ} {rss : List (List Test)} → FirstLine c k rss → k ≤ length rss
 fault_within (FirstLine.here f) = omega arith
 fault_within (FirstLine.later m f) = omega (arith, fault_within f)
 
--- ---- its number: 4 on the first two lines, then 5 or 6
+-- ---- its number: 4 on the first two lines, then 5, 6 or 14
 
 abbrev Later : List Test → Type 0
 Later ts = All (λ x. (k : ℕ) → TextRefusal x.0 (suc (suc (suc k))) 0) ts
@@ -193,10 +194,10 @@ module _ (a f : ℕ) where
   rule_numbers n i [] = tt
   rule_numbers n i (x ∷ xs) = ((λ k. too_many, (λ k. not_on_sheet, tt)), rule_numbers (n + operators x) (suc i) xs)
 
-  wish_numbers : (j : ℕ) (ws : List Clause) → All Later (wish_tests a f j ws)
+  wish_numbers : (j : ℕ) (ws : List Wish) → All Later (wish_tests a f j ws)
   unfolding wish_tests
   wish_numbers j [] = tt
-  wish_numbers j (w ∷ ws) = ((λ k. too_many, (λ k. not_on_sheet, tt)), wish_numbers (suc j) ws)
+  wish_numbers j (w ∷ ws) = ((λ k. too_many, (λ k. not_on_sheet, (λ k. wrong_weight, tt))), wish_numbers (suc j) ws)
 
 fault_later : {c j : ℕ} {tss : List (List Test)} → FirstLine c j tss → All Later tss → (k : ℕ) → TextRefusal c (suc (suc k) + j) 0
 fault_later {c} (FirstLine.here {rs} f) (n, ns) k = subst (λ m. TextRefusal c m 0) (omega arith) (first_in (λ c. (k : ℕ) → TextRefusal c (suc (suc (suc k))) 0) rs n f k)
@@ -239,6 +240,7 @@ text_refusal switches_out_of_range h = record { some = omega arith; own = λ e. 
 text_refusal faults_out_of_range h = record { some = omega arith; own = λ e. absurd (omega arith); number = omega arith; place = omega arith; column = omega arith }
 text_refusal too_many h = record { some = omega arith; own = λ e. absurd (omega arith); number = omega arith; place = omega arith; column = omega arith }
 text_refusal not_on_sheet h = record { some = omega arith; own = λ e. absurd (omega arith); number = omega arith; place = omega arith; column = omega arith }
+text_refusal wrong_weight h = record { some = omega arith; own = λ e. omega arith; number = omega arith; place = omega arith; column = omega arith }
 
 text_valid : {s : List ℕ} {t : Sheet} → TextRead s (reading.accepted t) → Valid t
 text_valid {s} (accepted {v} h l m) = sheet_valid v s l m

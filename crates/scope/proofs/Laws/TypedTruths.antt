@@ -93,6 +93,6 @@ module _ (v : Typed) (o : All (OnSheet v.switches v.faults) v.rules) (plan patte
   unfolding passes
   passes_written = all_values (truth (sheet_of v) plan pattern) (sheet_of v).rules ∙ ap (λ s. all s (λ b. b)) rules_true ∙ sym (all_values (formula_true (switch_on (sheet_of v) plan) (fault_on (sheet_of v) pattern)) v.rules)
 
-pub wishes_written : (v : Typed) (plan : ℕ) → map (kept (sheet_of v) plan) (sheet_of v).wishes ≡ map (λ w. any w (literal_true (switch_on (sheet_of v) plan))) v.wishes
+pub wishes_written : (v : Typed) (plan : ℕ) → map (λ w. kept (sheet_of v) plan w.clause) (sheet_of v).wishes ≡ map (λ w. any w.clause (literal_true (switch_on (sheet_of v) plan))) v.wishes
 unfolding sheet_of kept keeps
 wishes_written v plan = refl

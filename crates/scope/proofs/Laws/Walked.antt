@@ -1,16 +1,17 @@
 -- A legal text is walked to its end and gives its value, so it has one value only, and its beginnings are walked whole. Assumes nothing.
-use Rattle.std.specs.Prelude.{ℕ, zero, suc, ◌+◌, ◌*◌, ◌/◌, ◌%◌, ◌≤◌, ◌<◌, Bool, true, false, List, [], ◌∷◌, ◌++◌, ◌≡◌, refl, eqb, length}
+use Rattle.std.specs.Prelude.{ℕ, zero, suc, ◌+◌, ◌*◌, ◌/◌, ◌%◌, ◌^◌, ◌≤◌, ◌<◌, Bool, true, false, cond, List, [], ◌∷◌, ◌++◌, ◌≡◌, refl, eqb, ltb, length}
 use Prim.Native.Char.{code}
-use Rattle.std.proofs.Common.{arith, append_assoc, append-nil, sym, ap, ◌∙◌, length-append, lt-ltb, le-leb, ne_eqb}
+use Rattle.std.proofs.Common.{pow-suc, arith, append_assoc, append-nil, sym, ap, ◌∙◌, length-append, lt-ltb, le-leb, ne_eqb}
 use Rattle.std.proofs.Math.Option.{Option, none, some}
 use Rattle.scope.specs.Text.{bytes}
-use Rattle.scope.specs.Sheet.{Number, number, Clause, digit, decimal, All, Among, most_literals}
-use Rattle.scope.specs.Typed.{Formula, Typed, typed, most_number, numeral, Gap, Level, ors, ands, factor, most_nested, Written, RuleLines, literal_bytes, literals_bytes, wish_lines, Writable, Legal}
+use Rattle.scope.specs.Sheet.{Number, number, Clause, Wish, wish as wishOf, digit, decimal, All, Among, most_literals}
+use Rattle.scope.specs.Typed.{Formula, Typed, typed, most_number, numeral, Gap, Level, ors, ands, factor, most_nested, Written, RuleLines, literal_bytes, literals_bytes, Writable, Weight, WishLines, Legal}
 use Rattle.scope.specs.Typed as grammar
 use Rattle.scope.specs.Texts.{Starts}
-use Rattle.scope.specs.Parsing.{Around, line, bracket, first, bar, head, amp, bang, nested, Slot, State, word, digits, second, rule_line, wish_line, spaced, operand, after, sign, wish, ended, add_rule, add_wish, operand_done, number_done, joined_or, outside, is_digit, digit_of, zero_ok, nested_more, move, step, legal, stuck, at_end, go_on, walk, start}
+use Rattle.scope.specs.Parsing.{Around, line, bracket, first, bar, head, amp, bang, nested, Slot, State, word, digits, further, rule_line, wish_line, spaced, operand, after, sign, wish, ended, another, add_rule, add_wish, operand_done, number_done, joined_or, outside, is_digit, digit_of, zero_ok, room, grown, nested_more, move, step, legal, stuck, at_end, go_on, walk, start}
 use Rattle.scope.proofs.Laws.Lists.{length_snoc}
 use Rattle.scope.proofs.Laws.Fields.{by_digits}
+use Rattle.scope.proofs.Laws.Reached.{room_between}
 
 -- ---- a byte
 
@@ -25,7 +26,7 @@ step_walk st b t e = rw e
 
 -- ---- a number
 
--- a state that waits for no second digit, and in which no text ends
+-- a state that waits for no further digit, and in which no text ends
 abbrev pub Plain : State → Type 0
 Plain st = ((b : ℕ) → step st b ≡ move st b) × (at_end st ≡ stuck 0)
 
@@ -42,11 +43,25 @@ number_plain (Slot.faults a) n = (λ b. refl, refl)
 number_plain (Slot.switch k) n = operand_plain k (Formula.switch n)
 number_plain (Slot.fault k) n = operand_plain k (Formula.fault n)
 number_plain (Slot.literal v w m) n = (λ b. refl, refl)
+number_plain (Slot.weight v w) n = (λ b. refl, refl)
 
-second_left : (slot : Slot) (n : ℕ) (t : List ℕ) → NoDigit t → walk (second slot n) t ≡ walk (number_done slot n) t
+further_left : (slot : Slot) (n : ℕ) (t : List ℕ) → NoDigit t → walk (further slot n) t ≡ walk (number_done slot n) t
 unfolding walk step at_end
-second_left slot n [] h = sym (number_plain slot n).1
-second_left slot n (b ∷ t) h = rw (h, (number_plain slot n).0 b)
+further_left slot n [] h = sym (number_plain slot n).1
+further_left slot n (b ∷ t) h = rw (h, (number_plain slot n).0 b)
+
+-- whether or not one more digit may come
+grown_left : (slot : Slot) (n : ℕ) (t : List ℕ) → NoDigit t → walk (grown slot n) t ≡ walk (number_done slot n) t
+unfolding grown
+grown_left slot n t h = go (ltb n (room slot))
+  where
+    go : (b : Bool) → walk (cond b (further slot n) (number_done slot n)) t ≡ walk (number_done slot n) t
+    go true = further_left slot n t h
+    go false = refl
+
+pub grown_further : (slot : Slot) (n : ℕ) → n < room slot → grown slot n ≡ further slot n
+unfolding grown
+grown_further slot n h = rw (lt-ltb n (room slot) h)
 
 module _ (d : ℕ) (l : d < 10) where
   digit_is : is_digit (digit d) ≡ true
@@ -55,30 +70,31 @@ module _ (d : ℕ) (l : d < 10) where
   digit_value : digit_of (digit d) ≡ d
   digit_value = omega arith
 
-  first_digit : (slot : Slot) (t : List ℕ) → 0 < d → walk (digits slot) (digit d ∷ t) ≡ walk (second slot d) t
+  first_digit : (slot : Slot) (t : List ℕ) → 0 < d → walk (digits slot) (digit d ∷ t) ≡ walk (further slot d) t
   unfolding step move
   first_digit slot t p = step_walk (digits slot) (digit d) t (rw (ne_eqb (digit d) (code "0") (λ e. omega arith), digit_is, digit_value))
 
-  second_digit : (slot : Slot) (n : ℕ) (t : List ℕ) → walk (second slot n) (digit d ∷ t) ≡ walk (number_done slot (n * 10 + d)) t
+  further_digit : (slot : Slot) (n : ℕ) (t : List ℕ) → walk (further slot n) (digit d ∷ t) ≡ walk (grown slot (n * 10 + d)) t
   unfolding step
-  second_digit slot n t = step_walk (second slot n) (digit d) t (rw (digit_is, digit_value))
+  further_digit slot n t = step_walk (further slot n) (digit d) t (rw (digit_is, digit_value))
 
 zero_digit : (slot : Slot) (t : List ℕ) → zero_ok slot ≡ true → walk (digits slot) (digit 0 ∷ t) ≡ walk (number_done slot 0) t
 unfolding step move
 zero_digit slot t z = step_walk (digits slot) (digit 0) t (rw z)
 
-numeral_walks : (slot : Slot) (n : ℕ) (t : List ℕ) → n ≤ most_number → (n ≡ 0 → zero_ok slot ≡ true) → NoDigit t → walk (digits slot) (numeral n ++ t) ≡ walk (number_done slot n) t
-unfolding decimal
-numeral_walks slot n t h z e = by_digits (λ s. walk (digits slot) (s ++ t) ≡ walk (number_done slot n) t) 1 n (λ l. one n l z) two
-  where
-    one : (n : ℕ) → n < 10 → (n ≡ 0 → zero_ok slot ≡ true) → walk (digits slot) (digit n ∷ t) ≡ walk (number_done slot n) t
-    one zero l z = zero_digit slot t (z refl)
-    one (suc n) l z = first_digit (suc n) l slot t (omega arith) ∙ second_left slot (suc n) t e
+-- by the last digit and those before it, which make a number that may have one more
+digits_walk : (k : ℕ) (slot : Slot) (n : ℕ) (t : List ℕ) → 0 < n → n < 10 ^ k → n < room slot * 10 → walk (digits slot) (decimal k n ++ t) ≡ walk (grown slot n) t
+digits_walk zero slot n t p h r = absurd (omega arith)
+digits_walk (suc k) slot n t p h r =
+    let i : n / 10 * 10 + n % 10 ≡ n = omega arith in
+    by_digits (λ s. walk (digits slot) (s ++ t) ≡ walk (grown slot n) t) k n
+    (λ l. rw (grown_further slot n (omega (arith, room_between slot))) (first_digit n l slot t p))
+    (λ l. rw append_assoc (digits_walk k slot (n / 10) (digit (n % 10) ∷ t) (omega arith) (omega (arith, pow-suc 10 k)) (omega arith) ∙ rw (grown_further slot (n / 10) (omega arith)) (further_digit (n % 10) (omega arith) slot (n / 10) t) ∙ ap (λ m. walk (grown slot m) t) i))
 
-    two : 10 ≤ n → walk (digits slot) (decimal 1 (n / 10) ++ digit (n % 10) ∷ [] ++ t) ≡ walk (number_done slot n) t
-    two l =
-        let i : n / 10 * 10 + n % 10 ≡ n = omega arith in
-        rw (lt-ltb (n / 10) 10 (omega arith)) (first_digit (n / 10) (omega arith) slot (digit (n % 10) ∷ t) (omega arith) ∙ second_digit (n % 10) (omega arith) slot (n / 10) t ∙ ap (λ m. walk (number_done slot m) t) i)
+numeral_walks : (slot : Slot) (n : ℕ) (t : List ℕ) → n < room slot * 10 → (n ≡ 0 → zero_ok slot ≡ true) → NoDigit t → walk (digits slot) (numeral n ++ t) ≡ walk (number_done slot n) t
+unfolding decimal
+numeral_walks slot zero t h z e = zero_digit slot t (z refl)
+numeral_walks slot (suc n) t h z e = digits_walk 4 slot (suc n) t (omega arith) (omega (arith, room_between slot)) h ∙ grown_left slot (suc n) t e
 
 -- ---- a formula
 
@@ -138,8 +154,8 @@ bar_walks i t j = j.walked ∙ sign_walks i j.inner j.last (code "|") t refl ref
 -- by how the formula is written, whatever it is a part of and whatever follows
 walks : {l : Level} {d : ℕ} {x : Formula} {s : List ℕ} → Written l d x s → Walks l d x s
 unfolding step move nested_more nested operand_done number_done
-walks (grammar.switch {k = n} (p, q)) = λ k t h e. step_walk (operand k) (code "s") (numeral n ++ t) refl ∙ numeral_walks (Slot.switch k) n t q (λ z. absurd (omega arith)) e
-walks (grammar.fault {k = n} (p, q)) = λ k t h e. step_walk (operand k) (code "f") (numeral n ++ t) refl ∙ numeral_walks (Slot.fault k) n t q (λ z. absurd (omega arith)) e
+walks (grammar.switch {k = n} (p, q)) = λ k t h e. step_walk (operand k) (code "s") (numeral n ++ t) refl ∙ numeral_walks (Slot.switch k) n t (omega arith) (λ z. absurd (omega arith)) e
+walks (grammar.fault {k = n} (p, q)) = λ k t h e. step_walk (operand k) (code "f") (numeral n ++ t) refl ∙ numeral_walks (Slot.fault k) n t (omega arith) (λ z. absurd (omega arith)) e
 walks (grammar.not {g} {s} i w) = λ k t h e. simp append_assoc (step_walk (operand k) (code "!") (g ++ (s ++ t)) (rw (lt-ltb (nested k) most_nested (omega arith))) ∙ spaced_walks i (bang k) (s ++ t) (written_opens w t) ∙ walks w (bang k) t (omega arith) e)
 walks (grammar.bracket {g} {s} {h = f} i w j) = λ k t h e.
     let u : List ℕ = f ++ code ")" ∷ t in
@@ -183,50 +199,72 @@ unfolding walk step move number_done
 literal_walks v w x t (p, q) e = go x.minus
   where
     go : (m : Bool) → walk (wish v w) (literal_bytes (number m x.size) ++ t) ≡ walk (ended v (w ++ number m x.size ∷ [])) t
-    go true = numeral_walks (Slot.literal v w true) x.size t q (λ z. absurd (omega arith)) e
-    go false = numeral_walks (Slot.literal v w false) x.size t q (λ z. absurd (omega arith)) e
+    go true = numeral_walks (Slot.literal v w true) x.size t (omega arith) (λ z. absurd (omega arith)) e
+    go false = numeral_walks (Slot.literal v w false) x.size t (omega arith) (λ z. absurd (omega arith)) e
 
-literals_no_digit : (xs : Clause) (t : List ℕ) → NoDigit (literals_bytes xs ++ code "\n" ∷ t)
+-- it begins with no `w`, so a weight that might have come does not count
+another_literal : (v : Typed) (w : Clause) (x : Number) (t : List ℕ) → length w < most_literals → walk (another v w) (literal_bytes x ++ t) ≡ walk (wish v w) (literal_bytes x ++ t)
+unfolding walk step move
+another_literal v w x t l = go x.minus
+  where
+    go : (m : Bool) → walk (another v w) (literal_bytes (number m x.size) ++ t) ≡ walk (wish v w) (literal_bytes (number m x.size) ++ t)
+    go true = rw (lt-ltb (length w) most_literals l)
+    go false = rw (lt-ltb (length w) most_literals l)
+
+literals_no_digit : (xs : Clause) (t : List ℕ) → NoDigit t → NoDigit (literals_bytes xs ++ t)
 unfolding literals_bytes
-literals_no_digit [] t = refl
-literals_no_digit (x ∷ xs) t = refl
+literals_no_digit [] t e = e
+literals_no_digit (x ∷ xs) t e = refl
 
 -- the literals w stand before
-literals_walk : (v : Typed) (w xs : Clause) (t : List ℕ) → length w + length xs ≤ most_literals → All (λ x. Among most_number x.size) xs → walk (ended v w) (literals_bytes xs ++ code "\n" ∷ t) ≡ walk (wish_line (add_wish v (w ++ xs))) t
+literals_walk : (v : Typed) (w xs : Clause) (t : List ℕ) → length w + length xs ≤ most_literals → All (λ x. Among most_number x.size) xs → NoDigit t → walk (ended v w) (literals_bytes xs ++ t) ≡ walk (ended v (w ++ xs)) t
 unfolding literals_bytes step move
-literals_walk v w [] t l h = step_walk (ended v w) (code "\n") t (rw append-nil)
-literals_walk v w (x ∷ xs) t l (h, hs) =
-    let u : List ℕ = literals_bytes xs ++ code "\n" ∷ t in
-    simp append_assoc (step_walk (ended v w) (code " ") (literal_bytes x ++ u) (rw (lt-ltb (length w) most_literals (omega arith))) ∙ literal_walks v w x u h (literals_no_digit xs t) ∙ literals_walk v (w ++ x ∷ []) xs t (omega (arith, length_snoc w x)) hs ∙ ap (λ l. walk (wish_line (add_wish v l)) t) (append_assoc w (x ∷ []) xs))
+literals_walk v w [] t l h e = rw append-nil
+literals_walk v w (x ∷ xs) t l (h, hs) e =
+    let u : List ℕ = literals_bytes xs ++ t in
+    simp append_assoc (step_walk (ended v w) (code " ") (literal_bytes x ++ u) refl ∙ another_literal v w x u (omega arith) ∙ literal_walks v w x u h (literals_no_digit xs t e) ∙ literals_walk v (w ++ x ∷ []) xs t (omega (arith, length_snoc w x)) hs e ∙ ap (λ l. walk (ended v l) t) (append_assoc w (x ∷ []) xs))
+
+weight_no_digit : {n : ℕ} {s : List ℕ} → Weight n s → (t : List ℕ) → NoDigit (s ++ code "\n" ∷ t)
+weight_no_digit grammar.missing t = refl
+weight_no_digit (grammar.stated h) t = refl
+
+weight_word : (v : Typed) (w : Clause) (t : List ℕ) → walk (ended v w) (bytes " weight " ++ t) ≡ walk (digits (Slot.weight v w)) t
+unfolding walk step move
+weight_word v w t = refl
+
+weight_walks : {n : ℕ} {s : List ℕ} → Weight n s → (v : Typed) (w : Clause) (t : List ℕ) → walk (ended v w) (s ++ code "\n" ∷ t) ≡ walk (wish_line (add_wish v (wishOf w n))) t
+unfolding step move number_done
+weight_walks grammar.missing v w t = step_walk (ended v w) (code "\n") t refl
+weight_walks (grammar.stated {n} h) v w t = weight_word v w (numeral n ++ code "\n" ∷ t) ∙ numeral_walks (Slot.weight v w) n (code "\n" ∷ t) (omega arith) (λ z. refl) refl ∙ step_walk (number_done (Slot.weight v w) n) (code "\n") t refl
 
 wish_word : (v : Typed) (t : List ℕ) → walk (wish_line v) (bytes "wish " ++ t) ≡ walk (wish v []) t
 unfolding walk step move
 wish_word v t = refl
 
-wish_walks : (v : Typed) (w : Clause) (t : List ℕ) → Writable w → walk (wish_line v) (bytes "wish" ++ (literals_bytes w ++ code "\n" ∷ t)) ≡ walk (wish_line (add_wish v w)) t
+wish_walks : (v : Typed) (w : Clause) {n : ℕ} {s : List ℕ} (t : List ℕ) → Writable w → Weight n s → walk (wish_line v) (bytes "wish" ++ (literals_bytes w ++ (s ++ code "\n" ∷ t))) ≡ walk (wish_line (add_wish v (wishOf w n))) t
 unfolding literals_bytes
-wish_walks v [] t (a, b, c) = absurd (omega arith)
-wish_walks v (x ∷ xs) t (a, b, (h, hs)) =
-    let u : List ℕ = literals_bytes xs ++ code "\n" ∷ t in
-    simp append_assoc (wish_word v (literal_bytes x ++ u) ∙ literal_walks v [] x u h (literals_no_digit xs t) ∙ literals_walk v (x ∷ []) xs t (omega arith) hs)
+wish_walks v [] t (a, b, c) h = absurd (omega arith)
+wish_walks v (x ∷ xs) {s = s} t (a, b, (i, is)) h =
+    let e : NoDigit (s ++ code "\n" ∷ t) = weight_no_digit h t in
+    let u : List ℕ = literals_bytes xs ++ (s ++ code "\n" ∷ t) in
+    simp append_assoc (wish_word v (literal_bytes x ++ u) ∙ literal_walks v [] x u i (literals_no_digit xs (s ++ code "\n" ∷ t) e) ∙ literals_walk v (x ∷ []) xs (s ++ code "\n" ∷ t) (omega arith) is e ∙ weight_walks h v (x ∷ xs) t)
 
-abbrev with_wishes : Typed → List Clause → Typed
+abbrev with_wishes : Typed → List Wish → Typed
 with_wishes v ws = typed v.switches v.faults v.rules (v.wishes ++ ws)
 
 wish_end : (v : Typed) → walk (wish_line v) [] ≡ legal v
 unfolding walk at_end
 wish_end v = refl
 
-wishes_walk : (v : Typed) (ws : List Clause) → All Writable ws → walk (wish_line v) (wish_lines ws) ≡ legal (with_wishes v ws)
-unfolding wish_lines
-wishes_walk v [] h = rw append-nil (wish_end v)
-wishes_walk v (w ∷ ws) (h, hs) = simp append_assoc (wish_walks v w (wish_lines ws) h ∙ wishes_walk (add_wish v w) ws hs ∙ ap (λ l. legal (typed v.switches v.faults v.rules l)) (append_assoc v.wishes (w ∷ []) ws))
+wishes_walk : {ws : List Wish} {s : List ℕ} → WishLines ws s → (v : Typed) → walk (wish_line v) s ≡ legal (with_wishes v ws)
+wishes_walk grammar.none v = rw append-nil (wish_end v)
+wishes_walk (grammar.next {w} {ws} {t = t} h i r) v = simp append_assoc (wish_walks v w.clause t h i ∙ wishes_walk r (add_wish v w) ∙ ap (λ l. legal (typed v.switches v.faults v.rules l)) (append_assoc v.wishes (w ∷ []) ws))
 
 -- where no rule is left, it does not count that one might have come
-no_rule_left : (v : Typed) (ws : List Clause) → walk (rule_line v) (wish_lines ws) ≡ walk (wish_line v) (wish_lines ws)
-unfolding walk step move at_end wish_lines
-no_rule_left v [] = refl
-no_rule_left v (w ∷ ws) = refl
+no_rule_left : {ws : List Wish} {s : List ℕ} → WishLines ws s → (v : Typed) → walk (rule_line v) s ≡ walk (wish_line v) s
+unfolding walk step move at_end
+no_rule_left grammar.none v = refl
+no_rule_left (grammar.next h i r) v = refl
 
 -- ---- the whole
 
@@ -246,9 +284,9 @@ pub legal_walks : (v : Typed) (s : List ℕ) → Legal v s → walk start s ≡ 
 legal_walks v s h =
     let a : ℕ = v.switches in
     let f : ℕ = v.faults in
-    let t : List ℕ = h.rules ++ wish_lines v.wishes in
+    let t : List ℕ = h.rules ++ h.wishes in
     let u : List ℕ = numeral f ++ code "\n" ∷ t in
-    rw h.text (simp append_assoc (switches_word (numeral a ++ (bytes "\nfaults " ++ u)) ∙ numeral_walks Slot.switches a (bytes "\nfaults " ++ u) h.switches (λ z. refl) refl ∙ faults_word a u ∙ numeral_walks (Slot.faults a) f (code "\n" ∷ t) h.faults (λ z. refl) refl ∙ rules_word a f t ∙ rules_walk h.written (typed a f [] []) (wish_lines v.wishes) ∙ no_rule_left (typed a f v.rules []) v.wishes ∙ wishes_walk (typed a f v.rules []) v.wishes h.wishes))
+    rw h.text (simp append_assoc (switches_word (numeral a ++ (bytes "\nfaults " ++ u)) ∙ numeral_walks Slot.switches a (bytes "\nfaults " ++ u) (omega (arith, h.switches)) (λ z. refl) refl ∙ faults_word a u ∙ numeral_walks (Slot.faults a) f (code "\n" ∷ t) (omega (arith, h.faults)) (λ z. refl) refl ∙ rules_word a f t ∙ rules_walk h.written (typed a f [] []) h.wishes ∙ no_rule_left h.wished (typed a f v.rules []) ∙ wishes_walk h.wished (typed a f v.rules [])))
 
 pub legal_once : (v w : Typed) (s : List ℕ) → Legal v s → Legal w s → v ≡ w
 legal_once v w s a b = let e : legal v ≡ legal w = sym (legal_walks v s a) ∙ legal_walks w s b in cc
@@ -259,7 +297,7 @@ end_stuck : (st : State) {n : ℕ} → at_end st ≡ stuck n → n ≡ 0
 unfolding at_end
 end_stuck (word s st) e = cc
 end_stuck (digits slot) e = cc
-end_stuck (second slot n) e = cc
+end_stuck (further slot n) e = cc
 end_stuck (rule_line v) e = cc
 end_stuck (wish_line v) e = cc
 end_stuck (spaced k) e = cc
@@ -268,6 +306,7 @@ end_stuck (after a x) e = cc
 end_stuck (sign a x) e = cc
 end_stuck (wish v w) e = cc
 end_stuck (ended v w) e = cc
+end_stuck (another v w) e = cc
 
 -- no byte more helps where one is left
 stuck_append : (st : State) (p q : List ℕ) {n : ℕ} → walk st p ≡ stuck (suc n) → walk st (p ++ q) ≡ stuck (suc n + length q)

@@ -1,5 +1,5 @@
 -- Which wishes are kept, and what a plan costs. Assumes nothing.
-use Prim.Native.Nat.{ℕ, suc, ◌+◌, ◌≤◌}
+use Prim.Native.Nat.{ℕ, suc, ◌+◌, ◌*◌, ◌≤◌}
 use Rattle.std.proofs.Math.Nat.{ℕ_set}
 use native.Mathlib.Omega.{arith}
 use Rattle.std.specs.Prelude.{Bool, ◌↔◌, ◌≡◌}
@@ -9,7 +9,7 @@ use Rattle.std.proofs.Math.Logic.{∥∥₁_elim}
 use Rattle.std.proofs.Math.Path.{refl}
 use Rattle.std.proofs.Common.{sym, ap, ◌∙◌}
 use Rattle.std.proofs.Math.ListN.{length}
-use Rattle.scope.specs.Sheet.{Number, number, Clause, Gate, Sheet, sheet, most_wishes, Valid}
+use Rattle.scope.specs.Sheet.{Number, number, Clause, Gate, Wish, Sheet, sheet, most_wishes, most_weight, All, Allowed, Valid}
 use Rattle.scope.specs.Meaning.{literal_true, keeps, broken, switch_on, kept, cost, costs}
 use Rattle.scope.proofs.Laws.Tests.{clash}
 
@@ -50,26 +50,23 @@ module _ (v : ℕ → Bool) where
 -- ---- broken wishes
 
 module _ (v : ℕ → Bool) where
-  broken_most : (ws : List Clause) → broken v ws ≤ length ws
+  -- at most the largest weight each
+  broken_most : (a : ℕ) (ws : List Wish) → All (Allowed a) ws → broken v ws ≤ length ws * most_weight
   unfolding broken
-  broken_most [] = omega arith
-  broken_most (w ∷ ws) = go (keeps v w) (broken_most ws)
+  broken_most a [] h = omega arith
+  broken_most a (w ∷ ws) (b, h) = go (keeps v w.clause) b.weight.1 (broken_most a ws h)
     where
-      go : (t : Bool) → broken v ws ≤ length ws → cond t (broken v ws) (suc (broken v ws)) ≤ suc (length ws)
-      go true h = omega arith
-      go false h = omega arith
+      go : (t : Bool) → w.weight ≤ most_weight → broken v ws ≤ length ws * most_weight → cond t 0 w.weight + broken v ws ≤ suc (length ws) * most_weight
+      go true l h = omega arith
+      go false l h = omega arith
 
-  broken_together : (us ws : List Clause) → broken v (us ++ ws) ≡ broken v us + broken v ws
+  broken_together : (us ws : List Wish) → broken v (us ++ ws) ≡ broken v us + broken v ws
   unfolding broken
   broken_together [] ws = omega arith
-  broken_together (u ∷ us) ws = go (keeps v u) (broken_together us ws)
-    where
-      go : (t : Bool) → broken v (us ++ ws) ≡ broken v us + broken v ws → cond t (broken v (us ++ ws)) (suc (broken v (us ++ ws))) ≡ cond t (broken v us) (suc (broken v us)) + broken v ws
-      go true h = h
-      go false h = omega arith
+  broken_together (u ∷ us) ws = omega (arith, broken_together us ws)
 
   -- each wish counts by itself, so neighbours may change places
-  broken_order : {ws us : List Clause} → Permᴰ ws us → broken v ws ≡ broken v us
+  broken_order : {ws us : List Wish} → Permᴰ ws us → broken v ws ≡ broken v us
   broken_order Permᴰ.nil = refl
   broken_order (Permᴰ.cons {a = w} {b = u} {l₁ = ws} {l₂ = us} e p) =
       let d : broken v (w ∷ []) ≡ broken v (u ∷ []) = ap (λ x. broken v (x ∷ [])) e in
@@ -82,23 +79,23 @@ module _ (v : ℕ → Bool) where
 
 -- ---- cost
 
--- at most a wish each
-pub cost_most : (t : Sheet) (plan : ℕ) → cost t plan ≤ length t.wishes
-unfolding cost
-cost_most t plan = broken_most (switch_on t plan) t.wishes
+-- the cost of a valid sheet's plan: 64 wishes of 999, which five columns have room for
+abbrev pub most_cost : ℕ
+most_cost = most_wishes * most_weight
 
-pub cost_small : (t : Sheet) → Valid t → (plan : ℕ) → cost t plan ≤ most_wishes
-cost_small t v plan = omega (arith, cost_most t plan, v.few_wishes)
+pub cost_small : (t : Sheet) → Valid t → (plan : ℕ) → cost t plan ≤ most_cost
+unfolding cost
+cost_small t v plan = omega (arith, broken_most (switch_on t plan) t.switches t.wishes v.wishes, v.few_wishes)
 
 module _ (a f : ℕ) (gs : List Gate) (rs : List ℕ) (plan : ℕ) where
-  pub cost_one : (w : Clause) → costs a f gs rs plan (w ∷ []) ≡ cond (kept (sheet a f gs rs []) plan w) 0 1
+  pub cost_one : (w : Wish) → costs a f gs rs plan (w ∷ []) ≡ cond (kept (sheet a f gs rs []) plan w.clause) 0 w.weight
   unfolding cost broken kept switch_on
-  cost_one w = refl
+  cost_one w = omega arith
 
-  pub cost_together : (us ws : List Clause) → costs a f gs rs plan (us ++ ws) ≡ costs a f gs rs plan us + costs a f gs rs plan ws
+  pub cost_together : (us ws : List Wish) → costs a f gs rs plan (us ++ ws) ≡ costs a f gs rs plan us + costs a f gs rs plan ws
   unfolding cost switch_on
   cost_together us ws = broken_together (switch_on (sheet a f gs rs []) plan) us ws
 
-  pub cost_order : (ws us : List Clause) → Perm ws us → costs a f gs rs plan ws ≡ costs a f gs rs plan us
+  pub cost_order : (ws us : List Wish) → Perm ws us → costs a f gs rs plan ws ≡ costs a f gs rs plan us
   unfolding cost switch_on
   cost_order ws us p = ∥∥₁_elim p (ℕ_set (costs a f gs rs plan ws) (costs a f gs rs plan us)) (broken_order (switch_on (sheet a f gs rs []) plan))

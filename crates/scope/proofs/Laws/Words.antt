@@ -13,8 +13,9 @@ use Rattle.std.proofs.Math.ListN.{length, length-append, length-replicate, get_o
 use Rattle.std.proofs.lemmas.List.{get_or-replicate}
 use Rattle.std.proofs.Math.Seq.{get_or-append-add}
 use borrow.Author.Tests.{eqb-true, eqb-false, eq-eqb, ne_eqb, ltb-true, ltb-false, leb-true, leb-false}
-use Rattle.scope.specs.Sheet.{Number, number, Clause, Gate, Sheet, points, most_gates, most_rules, most_wishes, Names, Wish, Valid}
-use Rattle.scope.specs.Words.{gate_size, wish_size, gates_from, rules_from, wishes_from, word_count, word, gate_words, no_gate, gate_of, rule_words, literal_code, literal_at, wish_words, literal_from, clause_of, entries, gate_at, rule_at, wish_at, held, flat, room, words_of, Used, count, gate, rule, wish}
+use Rattle.scope.specs.Sheet.{Number, number, Clause, Gate, Wish, wish, Sheet, points, most_gates, most_rules, most_wishes, most_literals, All, Among, Names, Allowed, Valid}
+use Rattle.scope.specs.Words.{gate_size, wish_size, gates_from, rules_from, wishes_from, word_count, word, gate_words, no_gate, no_wish, gate_of, rule_words, literal_code, literal_at, wish_words, literal_from, clause_of, entries, gate_at, rule_at, wish_at, held, flat, room, words_of, Used, count, gate, rule}
+use Rattle.scope.specs.Words as words
 use Rattle.scope.proofs.Laws.Alls.{all_at}
 use Rattle.scope.proofs.Laws.Gates.{ordered_names}
 use Rattle.scope.proofs.Laws.Entries.{length_entries, entry_at}
@@ -53,7 +54,7 @@ gate_sized (Gate.or p q) = refl
 pub rule_sized : (p : ℕ) → length (rule_words p) ≡ 1
 rule_sized p = refl
 
-pub wish_sized : (w : Clause) → length (wish_words w) ≡ wish_size
+pub wish_sized : (w : Wish) → length (wish_words w) ≡ wish_size
 wish_sized w = refl
 
 pub gate_back : (g : Gate) → gate_of (word (gate_words g) 0) (word (gate_words g) 1) (word (gate_words g) 2) ≡ g
@@ -62,13 +63,16 @@ gate_back (Gate.not p) = refl
 gate_back (Gate.and p q) = refl
 gate_back (Gate.or p q) = refl
 
-pub wish_back : (a : ℕ) (w : Clause) → Wish a w → clause_of (literal_at 0 w) (literal_at 1 w) (literal_at 2 w) ≡ w
+clause_back : (a : ℕ) (w : Clause) → length w ≤ most_literals → All (λ x. Among a x.size) w → clause_of (literal_at 0 w) (literal_at 1 w) (literal_at 2 w) ≡ w
 unfolding clause_of
-wish_back a [] h = refl
-wish_back a (x ∷ []) (l, (h, hs)) = rw (code_there x h.0, from_code)
-wish_back a (x ∷ y ∷ []) (l, (h, (i, hs))) = rw (code_there y i.0, from_code x, from_code y)
-wish_back a (x ∷ y ∷ z ∷ []) (l, (h, (i, (j, hs)))) = rw (code_there z j.0, from_code x, from_code y, from_code z)
-wish_back a (x ∷ y ∷ z ∷ v ∷ w) (l, h) = absurd (omega arith)
+clause_back a [] l h = refl
+clause_back a (x ∷ []) l (h, hs) = rw (code_there x h.0, from_code)
+clause_back a (x ∷ y ∷ []) l (h, (i, hs)) = rw (code_there y i.0, from_code x, from_code y)
+clause_back a (x ∷ y ∷ z ∷ []) l (h, (i, (j, hs))) = rw (code_there z j.0, from_code x, from_code y, from_code z)
+clause_back a (x ∷ y ∷ z ∷ v ∷ w) l h = absurd (omega arith)
+
+pub wish_back : (a : ℕ) (w : Wish) → Allowed a w → wish (clause_of (literal_at 0 w.clause) (literal_at 1 w.clause) (literal_at 2 w.clause)) w.weight ≡ w
+wish_back a w h = ap (λ c. wish c w.weight) (clause_back a w.clause h.few h.literals)
 
 -- ---- a room of n entries, each of k words
 
@@ -168,8 +172,8 @@ module _ (t : Sheet) (v : Valid t) where
   unfolding words_of
   rule_word i h = room_at rule_words 1 rule_sized most_rules t.rules 0 (counts t ++ gates_room t) (wishes_room t) rules_from before_rules i 0 (i + rules_from) h (omega arith) (omega arith)
 
-  pub wish_word : (i j : ℕ) → i < length t.wishes → j < wish_size → word (words_of t) (i * wish_size + (wishes_from + j)) ≡ word (wish_words (get_or t.wishes i [])) j
-  wish_word i j h b = ap (λ s. word s (i * wish_size + (wishes_from + j))) wishes_last ∙ room_at wish_words wish_size wish_sized most_wishes t.wishes [] (counts t ++ gates_room t ++ rules_room t) [] wishes_from before_wishes i j (i * wish_size + (wishes_from + j)) h b refl
+  pub wish_word : (i j : ℕ) → i < length t.wishes → j < wish_size → word (words_of t) (i * wish_size + (wishes_from + j)) ≡ word (wish_words (get_or t.wishes i no_wish)) j
+  wish_word i j h b = ap (λ s. word s (i * wish_size + (wishes_from + j))) wishes_last ∙ room_at wish_words wish_size wish_sized most_wishes t.wishes no_wish (counts t ++ gates_room t ++ rules_room t) [] wishes_from before_wishes i j (i * wish_size + (wishes_from + j)) h b refl
 
   gates_held : entries (gate_at (words_of t)) (length t.gates) ≡ t.gates
   gates_held = same_entries (gate_at (words_of t)) no_gate t.gates (λ i h. rw (gate_word i 0 h (omega arith), gate_word i 1 h (omega arith), gate_word i 2 h (omega arith)) (gate_back (get_or t.gates i no_gate)))
@@ -178,7 +182,7 @@ module _ (t : Sheet) (v : Valid t) where
   rules_held = same_entries (rule_at (words_of t)) 0 t.rules rule_word
 
   wishes_held : entries (wish_at (words_of t)) (length t.wishes) ≡ t.wishes
-  wishes_held = same_entries (wish_at (words_of t)) [] t.wishes (λ i h. rw (wish_word i 0 h (omega arith), wish_word i 1 h (omega arith), wish_word i 2 h (omega arith)) (wish_back t.switches (get_or t.wishes i []) (all_at (Wish t.switches) t.wishes [] i v.wishes h)))
+  wishes_held = same_entries (wish_at (words_of t)) no_wish t.wishes (λ i h. rw (wish_word i 0 h (omega arith), wish_word i 1 h (omega arith), wish_word i 2 h (omega arith), wish_word i 3 h (omega arith)) (wish_back t.switches (get_or t.wishes i no_wish) (all_at (Allowed t.switches) t.wishes no_wish i v.wishes h)))
 
   pub held_words : held (words_of t) ≡ t
   unfolding words_of
@@ -204,7 +208,7 @@ module _ (t : Sheet) (v : Valid t) where
     unfolding words_of
     after_wishes l = beyond _ at λ h.
         let same : (at - wishes_from) / wish_size * wish_size + (wishes_from + (at - wishes_from) % wish_size) ≡ at = omega arith in
-        let counts : Used (words_of t) ((at - wishes_from) / wish_size * wish_size + (wishes_from + (at - wishes_from) % wish_size)) = wish (omega arith) (omega arith) in
+        let counts : Used (words_of t) ((at - wishes_from) / wish_size * wish_size + (wishes_from + (at - wishes_from) % wish_size)) = words.wish (omega arith) (omega arith) in
         unused (rw same at counts)
 
     pub words_blank : word (words_of t) at ≡ 0
@@ -231,22 +235,29 @@ gate_kept n k p q = go (eqb k (code "N")) (eqb k (code "A")) (eqb k (code "O")) 
     go false false true w d e f g h = rw (eqb-true k (code "O") f)
     go false false false w d e f g (l, h) = absurd (omega arith)
 
-wish_kept : (x y z : ℕ) → wish_words (clause_of x y z) ≡ x ∷ y ∷ z ∷ []
+wish_kept : (x y z n : ℕ) → wish_words (wish (clause_of x y z) n) ≡ x ∷ y ∷ z ∷ n ∷ []
 unfolding clause_of
-wish_kept x y z = go (eqb x 0) (eqb y 0) (eqb z 0) refl refl refl
+wish_kept x y z n = go (eqb x 0) (eqb y 0) (eqb z 0) refl refl refl
   where
-    go : (p q r : Bool) → eqb x 0 ≡ p → eqb y 0 ≡ q → eqb z 0 ≡ r → wish_words (cond r (cond q (cond p [] (literal_from x ∷ [])) (literal_from x ∷ literal_from y ∷ [])) (literal_from x ∷ literal_from y ∷ literal_from z ∷ [])) ≡ x ∷ y ∷ z ∷ []
+    go : (p q r : Bool) → eqb x 0 ≡ p → eqb y 0 ≡ q → eqb z 0 ≡ r → wish_words (wish (cond r (cond q (cond p [] (literal_from x ∷ [])) (literal_from x ∷ literal_from y ∷ [])) (literal_from x ∷ literal_from y ∷ literal_from z ∷ [])) n) ≡ x ∷ y ∷ z ∷ n ∷ []
     go p q false d e f = rw (code_from x, code_from y, code_from z)
     go p false true d e f = rw (code_from x, code_from y, eqb-true z 0 f)
     go false true true d e f = rw (code_from x, eqb-true y 0 e, eqb-true z 0 f)
     go true true true d e f = rw (eqb-true x 0 d, eqb-true y 0 e, eqb-true z 0 f)
 
--- word j of three
+-- word j of three, and of four
 triple_at : (u : List ℕ) (at from j : ℕ) → j < 3 → word (word u (at + from) ∷ word u (at + (from + 1)) ∷ word u (at + (from + 2)) ∷ []) j ≡ word u (at + (from + j))
 triple_at u at from zero h = rw add-zero
 triple_at u at from (suc zero) h = refl
 triple_at u at from (suc (suc zero)) h = refl
 triple_at u at from (suc (suc (suc j))) h = absurd (omega arith)
+
+quad_at : (u : List ℕ) (at from j : ℕ) → j < 4 → word (word u (at + from) ∷ word u (at + (from + 1)) ∷ word u (at + (from + 2)) ∷ word u (at + (from + 3)) ∷ []) j ≡ word u (at + (from + j))
+quad_at u at from zero h = rw add-zero
+quad_at u at from (suc zero) h = refl
+quad_at u at from (suc (suc zero)) h = refl
+quad_at u at from (suc (suc (suc zero))) h = refl
+quad_at u at from (suc (suc (suc (suc j)))) h = absurd (omega arith)
 
 module _ (u : List ℕ) (v : Valid (held u)) where
   count_kept : (i : ℕ) → i < gates_from → word (words_of (held u)) i ≡ word u i
@@ -269,8 +280,8 @@ module _ (u : List ℕ) (v : Valid (held u)) where
       ∙ ap (λ s. word s j) (gate_kept (points (held u)) (word u (i * gate_size + gates_from)) (word u (i * gate_size + (gates_from + 1))) (word u (i * gate_size + (gates_from + 2))) (gate_names i h))
       ∙ triple_at u (i * gate_size) gates_from j b
   words_kept (rule {i} h) = rule_word (held u) v i (omega (arith, length_entries (rule_at u) (word u 3))) ∙ entry_at (rule_at u) 0 (word u 3) i h
-  words_kept (wish {i} {j} h b) =
+  words_kept (words.wish {i} {j} h b) =
       wish_word (held u) v i j (omega (arith, length_entries (wish_at u) (word u 4))) b
-      ∙ ap (λ w. word (wish_words w) j) (entry_at (wish_at u) [] (word u 4) i h)
-      ∙ ap (λ s. word s j) (wish_kept (word u (i * wish_size + wishes_from)) (word u (i * wish_size + (wishes_from + 1))) (word u (i * wish_size + (wishes_from + 2))))
-      ∙ triple_at u (i * wish_size) wishes_from j b
+      ∙ ap (λ w. word (wish_words w) j) (entry_at (wish_at u) no_wish (word u 4) i h)
+      ∙ ap (λ s. word s j) (wish_kept (word u (i * wish_size + wishes_from)) (word u (i * wish_size + (wishes_from + 1))) (word u (i * wish_size + (wishes_from + 2))) (word u (i * wish_size + (wishes_from + 3))))
+      ∙ quad_at u (i * wish_size) wishes_from j b
