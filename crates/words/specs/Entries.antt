@@ -1,6 +1,6 @@
 -- Entries as the code holds them, and what one more of them makes of the words of a sheet: in no promise of an exported call. Assumes nothing.
 use Rattle.std.specs.Prelude.{ℕ, ◌≤◌, cond, List, [], ◌∷◌, ◌++◌, ◌≡◌, ◌≢◌, eqb, length, Option, Some, None, Result, Ok, Err}
-use Rattle.scope.specs.Sheet.{Sheet, sheet, number, Clause, most_gates, most_rules, most_wishes}
+use Rattle.scope.specs.Sheet.{Sheet, sheet, number, Clause, wish as wishOf, most_gates, most_rules, most_wishes}
 use Rattle.scope.specs.Sheet as scope
 use Rattle.scope.specs.Causes.{add_gate, add_rule, add_wish}
 use Rattle.scope.specs.Words.{gate_size, wish_size, gates_from, wishes_from, word, gate_words, gate_of, literal_from, clause_of, wish_words, words_of}
@@ -9,6 +9,7 @@ use Rattle.words.specs.declared.counts.Counts.{Counts}
 use Rattle.words.specs.declared.gate.Gate.{Gate}
 use Rattle.words.specs.declared.gate.Gate.TheVariants.{Not, And, Or}
 use Rattle.words.specs.declared.literal.Literal.{Literal}
+use Rattle.words.specs.declared.wish.Wish.{Wish}
 use Rattle.words.specs.declared.refusal.Refusal.{Refusal}
 use Rattle.words.specs.declared.refusal.Refusal.TheVariants.{Fields}
 
@@ -35,12 +36,18 @@ clause_there (x ∷ w) = literals_there x ++ clause_there w
 unfoldable pub literals_of : ℕ → Clause
 literals_of c = cond (eqb c 0) [] (literal_from c ∷ [])
 
--- a gate and a wish by their three words
+abbrev pub wish_from : Wish → scope.Wish
+wish_from w = wishOf (clause_there w.clause) w.weight
+
+-- a gate by its three words, a clause by those of its literals, and a wish by its four
 abbrev pub gate_of_words : List ℕ → scope.Gate
 gate_of_words g = gate_of (word g 0) (word g 1) (word g 2)
 
 abbrev pub clause_from : List ℕ → Clause
 clause_from w = clause_of (word w 0) (word w 1) (word w 2)
+
+abbrev pub wish_of_words : List ℕ → scope.Wish
+wish_of_words w = wishOf (clause_from w) (word w 3)
 
 -- the words are those of the gate, or of none
 abbrev pub GateRead : List ℕ → Result Gate Refusal → Type 0
@@ -86,4 +93,4 @@ RulePut p s u = (t : Sheet) → Kept t s → Kept (add_rule t p) u
 
 -- w are the words of a wish
 abbrev pub WishPut : (w : List ℕ) (before after : List ℕ) → Type 0
-WishPut w s u = (t : Sheet) (x : Clause) → w ≡ wish_words x → Kept t s → Kept (add_wish t x) u
+WishPut w s u = (t : Sheet) (x : scope.Wish) → w ≡ wish_words x → Kept t s → Kept (add_wish t x) u

@@ -2,7 +2,7 @@
 use Rattle.std.specs.Prelude.{ℕ, List, Result, Ok, Err}
 use Rattle.scope.specs.Causes.{Test, Met, First}
 use Rattle.words.specs.declared.refusal.Refusal.{Refusal}
-use Rattle.words.specs.declared.refusal.Refusal.TheVariants.{Length, Malformed, Order, Range, Limit, Fields, Count, NoPlan, NoRoom, HighPlan, HighPattern, Illegal, TooShort}
+use Rattle.words.specs.declared.refusal.Refusal.TheVariants.{Length, Malformed, Order, Range, Limit, Fields, Count, NoPlan, NoRoom, HighPlan, HighPattern, Illegal, TooShort, Weight}
 
 abbrev pub number_of : Refusal → ℕ
 number_of Length = 1
@@ -18,6 +18,7 @@ number_of HighPlan = 10
 number_of HighPattern = 11
 number_of Illegal = 12
 number_of TooShort = 13
+number_of Weight = 14
 
 -- every test is met, or the first that is not is that of the refusal
 abbrev pub Tested : List Test → Result Unit Refusal → Type 0

@@ -1,5 +1,5 @@
 // What several layers share. A planning sheet is one array of words, `Words`: five counts, then room for 400 gates of three words, 64
-// rules of one and 64 wishes of three (`held` and `words_of` in the crate `scope`, module Words). `Sheet` is such an array that holds a
+// rules of one and 64 wishes of four (`held` and `words_of` in the crate `scope`, module Words). `Sheet` is such an array that holds a
 // valid sheet; a contract sees it as the scope's sheet. Here are the entries of both, read and put one by one; limits, refusals,
 // literals; plans and patterns. The crate rests on `scope` alone. The array is a struct of the calls for C too, `comzsered_tables`: so
 // counts stand beside rooms, and a gate names others by their numbers.

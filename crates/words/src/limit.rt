@@ -13,5 +13,8 @@ pub const MOST_WISHES: u32 = 64;
 // of a wish
 pub const MOST_LITERALS: usize = 3;
 
+// of a wish; the least is 1
+pub const MOST_WEIGHT: u32 = 999;
+
 // The lines of the longest sheet: its head, its entries and its end.
 pub const MOST_LINES: usize = (MOST_GATES + MOST_RULES + MOST_WISHES) as usize + 2;

@@ -30,6 +30,8 @@ pub enum Refusal {
     Illegal,
     // the buffer is too short
     TooShort,
+    // weight of a wish outside 1 to 999
+    Weight,
 }
 
 impl From<Refusal> for u32 {

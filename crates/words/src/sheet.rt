@@ -1,8 +1,8 @@
 // A valid sheet, and its entries.
-ghost use Rattle.std.specs.Prelude.{[], ◌≡◌, ◌<◌, length, get_or};
+ghost use Rattle.std.specs.Prelude.{◌≡◌, ◌<◌, length, get_or};
 ghost use Rattle.scope.specs.Sheet.{Valid};
-ghost use Rattle.scope.specs.Words.{no_gate, held};
-ghost use Rattle.words.specs.Entries.{counts_from, gate_from, clause_there};
+ghost use Rattle.scope.specs.Words.{no_gate, no_wish, held};
+ghost use Rattle.words.specs.Entries.{counts_from, gate_from, wish_from};
 
 use crate::Words;
 use crate::counts::{Counts, counts_of};
@@ -83,8 +83,12 @@ impl Sheet {
 
     pub fn wish(&self, i: usize) -> Wish
         requires { i < length self.now.wishes }
-        ensures { clause_there result ≡ get_or self.now.wishes i [] }
+        ensures { wish_from result ≡ get_or self.now.wishes i no_wish }
     {
-        wish_at(&self.words, i).map(Literal::in_code)
+        let [first, second, third, weight] = wish_at(&self.words, i);
+        Wish {
+            clause: [first, second, third].map(Literal::in_code),
+            weight,
+        }
     }
 }

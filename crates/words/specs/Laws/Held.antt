@@ -1,16 +1,16 @@
 -- Each entry of the sheet that words hold, by its words; of a valid one the words are again those of the entry. Assumes nothing.
 use Rattle.std.specs.Prelude.{ℕ, Bool, true, false, eqb, refl, ◌+◌, ◌*◌, ◌<◌, List, [], ◌∷◌, ◌≢◌, ◌≡◌, length, get_or}
-use Rattle.std.proofs.Common.{arith, sym, ap, ◌∙◌, eqb-true, get_or-take, get_or-drop}
+use Rattle.std.proofs.Common.{arith, sym, ap, ap₂, ◌∙◌, eqb-true, get_or-take, get_or-drop}
 use Prim.Native.Char.{code}
-use Rattle.scope.specs.Sheet.{Clause, Among, Valid, points}
+use Rattle.scope.specs.Sheet.{Among, Allowed, Valid, points}
 use Rattle.scope.specs.Sheet as scope
-use Rattle.scope.specs.Words.{gate_size, wish_size, gates_from, wishes_from, word, no_gate, gate_words, wish_words, gate_at, rule_at, wish_at, held, gate_of, Used}
+use Rattle.scope.specs.Words.{gate_size, wish_size, gates_from, wishes_from, word, no_gate, no_wish, gate_words, wish_words, gate_at, rule_at, wish_at, held, gate_of, Used}
 use Rattle.scope.proofs.Laws.Alls.{all_at}
 use Rattle.scope.proofs.Laws.Entries.{length_entries}
 use Rattle.scope.proofs.Laws.Entries as entries
 use Rattle.scope.proofs.Laws.Words.{gate_sized, wish_sized, gate_back, gate_word, wish_word, words_kept}
 use Rattle.words.specs.Tables.{entry_at}
-use Rattle.words.specs.Entries.{gate_of_words, clause_from, counts_at, gate_words_at, wish_words_at}
+use Rattle.words.specs.Entries.{gate_of_words, wish_of_words, counts_at, gate_words_at, wish_words_at}
 
 pub three_words : (l : List ℕ) → length l ≡ 3 → {x y z : ℕ} → word l 0 ≡ x → word l 1 ≡ y → word l 2 ≡ z → l ≡ x ∷ y ∷ z ∷ []
 three_words [] n p q r = absurd (omega arith)
@@ -18,6 +18,10 @@ three_words (a ∷ []) n p q r = absurd (omega arith)
 three_words (a ∷ b ∷ []) n p q r = absurd (omega arith)
 three_words (a ∷ b ∷ c ∷ []) n p q r = cc
 three_words (a ∷ b ∷ c ∷ d ∷ l) n p q r = absurd (omega arith)
+
+four_words : (l : List ℕ) → length l ≡ 4 → {x y z v : ℕ} → word l 0 ≡ x → word l 1 ≡ y → word l 2 ≡ z → word l 3 ≡ v → l ≡ x ∷ y ∷ z ∷ v ∷ []
+four_words [] n p q r t = absurd (omega arith)
+four_words (a ∷ l) n p q r t = ap₂ (λ b m. b ∷ m) p (three_words l (omega arith) q r t)
 
 -- word j of entry i
 word_entry : (from n : ℕ) (s : List ℕ) (i j : ℕ) → j < n → word (entry_at from n s i) j ≡ word s (from + i * n + j)
@@ -33,8 +37,8 @@ module _ (s : List ℕ) where
   gate_by_words : (i : ℕ) → gate_at s i ≡ gate_of_words (gate_words_at s i)
   gate_by_words i = rw (gate_word_at i 0 (omega arith), gate_word_at i 1 (omega arith), gate_word_at i 2 (omega arith))
 
-  wish_by_words : (i : ℕ) → wish_at s i ≡ clause_from (wish_words_at s i)
-  wish_by_words i = rw (wish_word_at i 0 (omega arith), wish_word_at i 1 (omega arith), wish_word_at i 2 (omega arith))
+  wish_by_words : (i : ℕ) → wish_at s i ≡ wish_of_words (wish_words_at s i)
+  wish_by_words i = rw (wish_word_at i 0 (omega arith), wish_word_at i 1 (omega arith), wish_word_at i 2 (omega arith), wish_word_at i 3 (omega arith))
 
   -- ---- how many there are, and each of them
 
@@ -53,16 +57,16 @@ module _ (s : List ℕ) where
   pub held_rule : (i : ℕ) → i < (counts_at s).rules → get_or (held s).rules i 0 ≡ rule_at s i
   held_rule i h = entries.entry_at (rule_at s) 0 (word s 3) i h
 
-  pub held_wish : (i : ℕ) → i < (counts_at s).wishes → get_or (held s).wishes i [] ≡ clause_from (wish_words_at s i)
-  held_wish i h = entries.entry_at (wish_at s) [] (word s 4) i h ∙ wish_by_words i
+  pub held_wish : (i : ℕ) → i < (counts_at s).wishes → get_or (held s).wishes i no_wish ≡ wish_of_words (wish_words_at s i)
+  held_wish i h = entries.entry_at (wish_at s) no_wish (word s 4) i h ∙ wish_by_words i
 
   -- ---- of a valid one
   module _ (v : Valid (held s)) (i : ℕ) where
     pub rule_among : i < (counts_at s).rules → Among (points (held s)) (rule_at s i)
     rule_among h = rw (held_rule i h) at (all_at (Among (points (held s))) (held s).rules 0 i v.rules (omega (arith, held_rules)))
 
-    pub wish_allowed : i < (counts_at s).wishes → scope.Wish (counts_at s).switches (clause_from (wish_words_at s i))
-    wish_allowed h = rw (held_wish i h) at (all_at (scope.Wish (counts_at s).switches) (held s).wishes [] i v.wishes (omega (arith, held_wishes)))
+    pub wish_allowed : i < (counts_at s).wishes → Allowed (counts_at s).switches (wish_of_words (wish_words_at s i))
+    wish_allowed h = rw (held_wish i h) at (all_at (Allowed (counts_at s).switches) (held s).wishes no_wish i v.wishes (omega (arith, held_wishes)))
 
     -- the words stand for an entry, whose words they are
 
@@ -72,11 +76,11 @@ module _ (s : List ℕ) where
         let at : (j : ℕ) → j < gate_size → word (gate_words g) j ≡ word (gate_words_at s i) j = λ j b. sym (gate_word (held s) v i j (omega (arith, held_gates)) b ∙ ap (λ x. word (gate_words x) j) (held_gate i h)) ∙ words_kept s v (Used.gate h b) ∙ sym (gate_word_at i j b) in
         three_words (gate_words g) (gate_sized g) (at 0 (omega arith)) (at 1 (omega arith)) (at 2 (omega arith))
 
-    pub wish_kept : i < (counts_at s).wishes → let w : List ℕ = wish_words_at s i in wish_words (clause_from w) ≡ word w 0 ∷ word w 1 ∷ word w 2 ∷ []
+    pub wish_kept : i < (counts_at s).wishes → let w : List ℕ = wish_words_at s i in wish_words (wish_of_words w) ≡ word w 0 ∷ word w 1 ∷ word w 2 ∷ word w 3 ∷ []
     wish_kept h =
-        let w : Clause = clause_from (wish_words_at s i) in
+        let w : scope.Wish = wish_of_words (wish_words_at s i) in
         let at : (j : ℕ) → j < wish_size → word (wish_words w) j ≡ word (wish_words_at s i) j = λ j b. sym (wish_word (held s) v i j (omega (arith, held_wishes)) b ∙ ap (λ x. word (wish_words x) j) (held_wish i h)) ∙ words_kept s v (Used.wish h b) ∙ sym (wish_word_at i j b) in
-        three_words (wish_words w) (wish_sized w) (at 0 (omega arith)) (at 1 (omega arith)) (at 2 (omega arith))
+        four_words (wish_words w) (wish_sized w) (at 0 (omega arith)) (at 1 (omega arith)) (at 2 (omega arith)) (at 3 (omega arith))
 
 -- ---- a gate and its words
 

@@ -2,7 +2,7 @@
 use Rattle.std.specs.Prelude.{ℕ, ◌+◌, ◌*◌, ◌≤◌, ◌<◌, List, [], ◌∷◌, ◌++◌, ◌≡◌, refl, length, set}
 use Rattle.std.proofs.Common.{arith, ap, add-one, lt-ltb, append_assoc, append-nil, length-append}
 use Rattle.std.proofs.lemmas.List.Edits.{sets}
-use Rattle.scope.specs.Sheet.{Clause, Sheet, sheet, most_gates, most_rules, most_wishes}
+use Rattle.scope.specs.Sheet.{Sheet, sheet, most_gates, most_rules, most_wishes}
 use Rattle.scope.specs.Sheet as scope
 use Rattle.scope.specs.Causes.{add_gate, add_rule, add_wish}
 use Rattle.scope.specs.Words.{gate_size, wish_size, gates_from, rules_from, wishes_from, word, gate_words, rule_words, wish_words, room, words_of}
@@ -52,7 +52,7 @@ module _ (t : Sheet) (vs : List ℕ) where
       let put : sets (words_of t) at vs ≡ before ++ (rules_room (add_rule t p) ++ wishes_room t) = rw e (room_put rule_words 1 rule_sized most_rules t.rules h p before (wishes_room t) at (omega arith)) in
       rw (put, add-one, length_snoc)
 
-  wish_more : (x : Clause) → vs ≡ wish_words x → Within t → length t.wishes < most_wishes → set (sets (words_of t) (wishes_from + length t.wishes * wish_size) vs) 4 (length t.wishes + 1) ≡ words_of (add_wish t x)
+  wish_more : (x : scope.Wish) → vs ≡ wish_words x → Within t → length t.wishes < most_wishes → set (sets (words_of t) (wishes_from + length t.wishes * wish_size) vs) 4 (length t.wishes + 1) ≡ words_of (add_wish t x)
   unfolding words_of
   wish_more x e w h =
       let at : ℕ = wishes_from + length t.wishes * wish_size in
@@ -84,7 +84,7 @@ rule_before t s p k w =
     let i : Within t = record { gates = w.gates; rules = omega arith; wishes = w.wishes } in
     record { within = i; space = h; words = k i; counted = ap (λ u. word u 3) (k i) }
 
-wish_before : (t : Sheet) (s : List ℕ) (x : Clause) → Kept t s → Within (add_wish t x) → Before t s 4 (length t.wishes) most_wishes
+wish_before : (t : Sheet) (s : List ℕ) (x : scope.Wish) → Kept t s → Within (add_wish t x) → Before t s 4 (length t.wishes) most_wishes
 unfolding words_of
 wish_before t s x k w =
     let h : length t.wishes < most_wishes = omega (arith, length_snoc t.wishes x, w.wishes) in
