@@ -1,5 +1,5 @@
 -- What the code's lines stand for: in no promise of an exported call. Assumes nothing.
-use Rattle.std.specs.Prelude.{ℕ, ◌+◌, ◌*◌, ◌≤◌, List, [], ◌∷◌, ◌++◌, map, ◌≡◌, Result, Ok, Err}
+use Rattle.std.specs.Prelude.{ℕ, ◌+◌, ◌*◌, ◌≤◌, cond, leb, List, [], ◌∷◌, ◌++◌, map, ◌≡◌, Result, Ok, Err}
 use Rattle.std.proofs.Math.Option.{none, some}
 use Rattle.scope.specs.Sheet as scope
 use Rattle.scope.specs.Sheet.{field_size, field, line}
@@ -19,6 +19,10 @@ letter_from Or = scope.O
 letter_from Rule = scope.R
 letter_from Wish = scope.W
 letter_from End = scope.Z
+
+-- the layout whose lines have n fields
+abbrev pub layout_of : ℕ → scope.Layout
+layout_of n = cond (leb n 3) scope.plain scope.weighted
 
 -- r is what the byte b of a line's first column holds
 abbrev pub LetterRead : (b : ℕ) → Result Letter Malformed → Type 0

@@ -9,6 +9,6 @@ mod put;
 mod read;
 
 pub use letter::Letter;
-pub use line::{FIELD_COUNT, LINE_SIZE, Line, line_size};
+pub use line::{Line, WEIGHTED_FIELDS, WEIGHTED_SIZE, line_size};
 pub use put::put_line;
 pub use read::line_at;
