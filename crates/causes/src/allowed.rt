@@ -1,14 +1,15 @@
 // What may stand in the fields of a line: the tests of the scope, over numbers. `writer` asks them too, of the numbers that its words say.
-ghost use Rattle.std.specs.Prelude.{◌≡◌, ◌&&◌, ◌≤◌, length, take, drop};
+ghost use Rattle.std.specs.Prelude.{◌≡◌, ◌&&◌, ◌≤◌, length, drop};
 ghost use Rattle.std.specs.List.{list_all};
-ghost use Rattle.scope.specs.Sheet.{most_switches, most_faults, most_literals};
-ghost use Rattle.scope.specs.Causes.{is, up_to, point, literal, zeros, literals};
+ghost use Rattle.scope.specs.Sheet.{most_switches, most_faults};
+ghost use Rattle.scope.specs.Causes.{is, up_to, point, literal, zeros, literals, is_weight};
 ghost use Rattle.field.specs.Columns.{number_from};
 ghost use Rattle.line.specs.Lines.{numbers_from};
 ghost use Rattle.causes.specs.Tests.{point_test, are_points};
 
 use field::Number;
-use words::limit::{MOST_FAULTS, MOST_LITERALS, MOST_SWITCHES};
+use words::limit::{MOST_FAULTS, MOST_SWITCHES};
+use words::wish;
 
 // By hand, as a `Number` has no order.
 fn is_up_to(x: Number, m: u32) -> bool
@@ -29,6 +30,13 @@ pub fn is_point(x: Number, m: usize) -> bool
     ensures { result ≡ point m (number_from x) }
 {
     !x.minus && x.size as usize <= m && 0 < x.size
+}
+
+// Whether x is a weight that a wish may have.
+pub(crate) fn is_weight(x: Number) -> bool
+    ensures { result ≡ is_weight (number_from x) }
+{
+    !x.minus && wish::is_weight(x.size)
 }
 
 fn is_literal(x: Number, a: u32) -> bool
@@ -65,22 +73,13 @@ pub fn are_literals(xs: &[Number], a: u32) -> bool
     true
 }
 
-// The literals of a wish, and nothing else; any form has three fields for them.
-pub(crate) fn is_wish(xs: &[Number], a: u32) -> bool
-    requires { 3 ≤ length xs.now }
-    ensures { result ≡ (literals a (take most_literals (numbers_from xs.now)) && zeros (drop most_literals (numbers_from xs.now))) }
-{
-    let (first, rest) = xs.split_at(MOST_LITERALS);
-    are_literals(first, a) && are_unused(rest)
-}
-
 fn are_all_points(xs: &[Number], m: usize) -> bool
     ensures { result ≡ list_all (point_test m) xs.now }
 {
     xs.iter().all(|x| is_point(*x, m))
 }
 
-// K points of m, and nothing else. (The two steps of `is_wish` with another test: a closure for that would be as long.)
+// K points of m, and nothing else.
 #[tactic(auto, using(crate::proofs::Fields::all_points, crate::proofs::Fields::others_unused))]
 pub(crate) fn are_points<const K: usize>(xs: &[Number], m: usize) -> bool
     requires { K ≤ length xs.now }

@@ -7,15 +7,15 @@ ghost use Rattle.scope.specs.Causes.{gate_tests, is, tests};
 ghost use Rattle.words.specs.Refusals.{Tested};
 ghost use Rattle.words.specs.Entries.{counts_from};
 ghost use Rattle.field.specs.Columns.{number_from};
-ghost use Rattle.line.specs.Lines.{letter_from, numbers_from};
+ghost use Rattle.line.specs.Lines.{layout_of, letter_from, numbers_from};
 ghost use Rattle.causes.specs.Counts.{Few};
 ghost use Rattle.causes.specs.Tests.{tests_from};
 
-use crate::allowed::{are_points, are_unused, is_head, is_wish};
+use crate::allowed::{are_literals, are_points, are_unused, is_head, is_weight};
 use field::Number;
 use line::{Letter, Line};
 use words::counts::Counts;
-use words::limit::{MOST_GATES, MOST_RULES, MOST_WISHES};
+use words::limit::{MOST_GATES, MOST_LITERALS, MOST_RULES, MOST_WISHES};
 use words::refusal::{Refusal, require};
 
 // Where a line of N fields stands: the counts of what the lines before it say, how many lines they are, and whether no line comes after.
@@ -25,7 +25,7 @@ pub struct Place<const N: usize> {
     pub index: usize,
     pub last: bool,
     ghost few: { Few before },
-    ghost form: { 3 ≤ N },
+    ghost fields: { 3 ≤ N },
 }
 
 // The first of several tests that is not met, each with the refusal that it spares. The scope lists them so, and one proof does for all
@@ -80,7 +80,7 @@ impl<const N: usize> Place<N> {
 
     #[tactic(auto, unfolding(scope::specs::Causes::tests))]
     fn head_fault(&self, line: &Line<N>) -> Result<(), Refusal>
-        ensures { (t : Sheet) → self.now.before ≡ counts_from t → Tested (tests t self.now.index self.now.last Head (numbers_from line.now.numbers)) result }
+        ensures { (t : Sheet) → self.now.before ≡ counts_from t → Tested (tests (layout_of N) t self.now.index self.now.last Head (numbers_from line.now.numbers)) result }
     {
         let numbers = &line.numbers[..];
         first_fault(&[
@@ -103,7 +103,7 @@ impl<const N: usize> Place<N> {
 
     #[tactic(auto, unfolding(scope::specs::Causes::tests))]
     fn rule_fault(&self, line: &Line<N>) -> Result<(), Refusal>
-        ensures { (t : Sheet) → self.now.before ≡ counts_from t → Tested (tests t self.now.index self.now.last Rule (numbers_from line.now.numbers)) result }
+        ensures { (t : Sheet) → self.now.before ≡ counts_from t → Tested (tests (layout_of N) t self.now.index self.now.last Rule (numbers_from line.now.numbers)) result }
     {
         first_fault(&[
             (self.is_before_wishes(), Refusal::Order),
@@ -117,15 +117,14 @@ impl<const N: usize> Place<N> {
 
     #[tactic(auto, unfolding(scope::specs::Causes::tests))]
     fn wish_fault(&self, line: &Line<N>) -> Result<(), Refusal>
-        ensures { (t : Sheet) → self.now.before ≡ counts_from t → Tested (tests t self.now.index self.now.last Wish (numbers_from line.now.numbers)) result }
+        ensures { (t : Sheet) → self.now.before ≡ counts_from t → Tested (tests (layout_of N) t self.now.index self.now.last Wish (numbers_from line.now.numbers)) result }
     {
+        let literals = are_literals(&line.numbers[..MOST_LITERALS], self.before.switches);
         first_fault(&[
             (self.is_between(), Refusal::Order),
             (self.before.wishes < MOST_WISHES, Refusal::Limit),
-            (
-                is_wish(&line.numbers, self.before.switches),
-                Refusal::Fields,
-            ),
+            (literals, Refusal::Fields),
+            (is_weight(line.weight()), Refusal::Weight),
         ])
     }
 
@@ -138,7 +137,7 @@ impl<const N: usize> Place<N> {
 
     #[tactic(auto, unfolding(scope::specs::Causes::tests))]
     fn end_fault(&self, line: &Line<N>) -> Result<(), Refusal>
-        ensures { (t : Sheet) → self.now.before ≡ counts_from t → Tested (tests t self.now.index self.now.last End (numbers_from line.now.numbers)) result }
+        ensures { (t : Sheet) → self.now.before ≡ counts_from t → Tested (tests (layout_of N) t self.now.index self.now.last End (numbers_from line.now.numbers)) result }
     {
         let numbers = &line.numbers[..];
         first_fault(&[
@@ -151,7 +150,7 @@ impl<const N: usize> Place<N> {
     // The refusal of the first test that the line does not meet. (By a match: each letter has tests of its own.)
     #[tactic(auto, unfolding(scope::specs::Causes::tests))]
     pub fn fault(&self, line: &Line<N>) -> Result<(), Refusal>
-        ensures { (t : Sheet) → self.now.before ≡ counts_from t → Tested (tests t self.now.index self.now.last (letter_from line.now.letter) (numbers_from line.now.numbers)) result }
+        ensures { (t : Sheet) → self.now.before ≡ counts_from t → Tested (tests (layout_of N) t self.now.index self.now.last (letter_from line.now.letter) (numbers_from line.now.numbers)) result }
     {
         let numbers = &line.numbers[..];
         match line.letter {

@@ -1,11 +1,11 @@
 -- The literals of a wish whose fields are right. Assumes nothing.
 use Rattle.std.specs.Prelude.{ℕ, zero, suc, ◌≤◌, ◌<◌, Bool, true, false, cond, ◌&&◌, List, [], ◌∷◌, ◌≡◌, refl, leb, ltb, get_or, take}
 use Rattle.std.proofs.Common.{arith, sym, ap, ◌∙◌, leb-true}
-use Rattle.scope.specs.Sheet.{Number, plus, most_literals}
+use Rattle.scope.specs.Sheet.{Number, plus, wish, most_literals}
 use Rattle.scope.specs.Causes.{is, literal, zeros, literals, clause, at}
 use Rattle.scope.proofs.Laws.Tests.{both}
 use Rattle.scope.proofs.Laws.Steps.{is_plus}
-use Rattle.scope.specs.Words.{literal_code, literal_at}
+use Rattle.scope.specs.Words.{literal_code, literal_at, wish_words}
 use Rattle.field.specs.Columns.{number_from}
 use Rattle.line.specs.Lines.{numbers_from}
 use Rattle.line.specs.Laws.Numbers.{at_numbers}
@@ -39,13 +39,16 @@ literals-small a [] i e = omega arith
 literals-small a (x ∷ xs) zero e = by_zero a x xs (λ t. x.size ≤ a) e (λ z _. omega (arith, ap (λ y. y.size) (is_plus 0 x z))) (λ l _. leb-true x.size a (both (leb x.size a) (ltb 0 x.size) l).0)
 literals-small a (x ∷ xs) (suc i) e = by_zero a x xs (λ t. (at xs i).size ≤ a) e (λ _ z. omega (arith, ap (λ y. y.size) (zeros-at xs i z))) (λ _ l. literals-small a xs i l)
 
+abbrev field_at : List made.Number → ℕ → made.Number
+field_at ys i = get_or ys i (record { minus = false; size = 0 })
+
 -- field i of the first three
 module _ (ys : List made.Number) (l : AreLiterals (take most_literals (numbers_from ys))) (i : ℕ) (h : i < most_literals) where
   abbrev xs : List Number
   xs = take most_literals (numbers_from ys)
 
   abbrev y : made.Number
-  y = get_or ys i (record { minus = false; size = 0 })
+  y = field_at ys i
 
   field_is : at xs i ≡ number_from y
   field_is = sym (at_numbers most_literals i ys h)
@@ -53,5 +56,11 @@ module _ (ys : List made.Number) (l : AreLiterals (take most_literals (numbers_f
   pub code_fits : y.size ≤ 99
   code_fits = omega (arith, literals-small l.switches xs i l.right, l.few, ap (λ z. z.size) field_is)
 
-  pub code_is : (r : ℕ) → r ≡ literal_code (number_from y) → r ≡ literal_at i (clause xs)
+  code_is : (r : ℕ) → r ≡ literal_code (number_from y) → r ≡ literal_at i (clause xs)
   code_is r c = c ∙ ap literal_code (sym field_is ∙ sym (clause-at l.switches xs i l.right))
+
+-- the words of the wish that has these literals and weighs n
+module _ (ys : List made.Number) (l : AreLiterals (take most_literals (numbers_from ys))) where
+  pub words_are : {a b c : ℕ} (n : ℕ) → a ≡ literal_code (number_from (field_at ys 0)) → b ≡ literal_code (number_from (field_at ys 1)) → c ≡ literal_code (number_from (field_at ys 2))
+      → a ∷ b ∷ c ∷ n ∷ [] ≡ wish_words (wish (clause (take most_literals (numbers_from ys))) n)
+  words_are n e f g = rw (code_is ys l 0 (omega arith) _ e, code_is ys l 1 (omega arith) _ f, code_is ys l 2 (omega arith) _ g)

@@ -14,7 +14,7 @@ use Rattle.words.specs.declared.refusal.Refusal.{Refusal}
 use Rattle.words.specs.declared.refusal.Refusal.TheVariants.{Malformed}
 use Rattle.words.specs.declared.refusal.Cause.{Cause}
 use Rattle.field.specs.declared.Malformed as field
-use Rattle.line.specs.Lines.{LineRead, line_from}
+use Rattle.line.specs.Lines.{LineRead, layout_of, line_from}
 use Rattle.line.specs.declared.line.Line.{Line}
 use Rattle.sheet.specs.Steps.{LineTold}
 
@@ -29,7 +29,7 @@ module _ (n : ℕ) (s : List ℕ) (t : Sheet) (k : ℕ) (last : Bool) (c : Cause
       let (f, g) = rw g at f in
       rw (h x p, f, g) (First.here, add-one k, refl)
 
-  pub at_fault : (P : Refusal → Cause → Type 0) (l : Line n) (r : Result (Unit {0}) Refusal) (p : Result (Unit {0}) Cause) → line_of n s ≡ math.some (line_from l) → Tested (tests t k last (line_from l).letter (line_from l).fields) r
+  pub at_fault : (P : Refusal → Cause → Type 0) (l : Line n) (r : Result (Unit {0}) Refusal) (p : Result (Unit {0}) Cause) → line_of n s ≡ math.some (line_from l) → Tested (tests (layout_of n) t k last (line_from l).letter (line_from l).fields) r
       → Mapped P r p → p ≡ Err c → ((x : Refusal) → P x c → c ≡ record { refusal = x; place = k + 1; column = 0 }) → LineTold n s t k last (Err c)
   at_fault P l r p f g m e h =
       let (x, y, z) = mapped_err P r p m e in

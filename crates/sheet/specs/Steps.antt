@@ -1,13 +1,13 @@
 -- What the steps over the lines need: in no promise of an exported call. Assumes nothing.
 use Rattle.std.specs.Prelude.{ℕ, suc, ◌≤◌, Bool, true, List, [], ◌≡◌, take, Result, Ok, Err}
 use Rattle.std.proofs.Math.Option.{some, get_or}
-use Rattle.scope.specs.Sheet.{Number, Sheet, Letter, H, N, A, O, R, W, Z, Line, most_switches, most_literals}
+use Rattle.scope.specs.Sheet.{Number, Sheet, Layout, Letter, H, N, A, O, R, W, Z, Line, most_switches, most_literals}
 use Rattle.scope.specs.Causes.{literals, tests, make, Met, First}
 use Rattle.scope.specs.Reading.{line_of, column_of, tests_of}
 use Rattle.words.specs.Entries.{Kept}
 use Rattle.words.specs.Refusals.{number_of}
 use Rattle.words.specs.declared.refusal.Cause.{Cause}
-use Rattle.line.specs.Lines.{line_from}
+use Rattle.line.specs.Lines.{layout_of, line_from}
 use Rattle.line.specs.declared.line.Line as made
 
 -- literals of so many switches, few enough that a code fits a word, and then zeros
@@ -33,10 +33,10 @@ abbrev pub Suited : Line → Type 0
 Suited l = (t : Sheet) × Suits t l
 
 -- the words of a sheet become those of the sheet with one more line
-abbrev pub Takes : Line → (before after : List ℕ) → Type 0
-Takes l s u = (t : Sheet) → Suits t l → Kept t s → Kept (make t l.letter l.fields) u
+abbrev pub Takes : Layout → Line → (before after : List ℕ) → Type 0
+Takes y l s u = (t : Sheet) → Suits t l → Kept t s → Kept (make y t l.letter l.fields) u
 
 -- r is what the line s of n fields tells at a place after k lines that say t: the line, which meets its tests, or the first that it does not
 abbrev pub LineTold : (n : ℕ) (s : List ℕ) (t : Sheet) (k : ℕ) (last : Bool) → Result (made.Line n) Cause → Type 0
-LineTold n s t k last (Ok l) = (line_of n s ≡ some (line_from l)) × Met (tests t k last (line_from l).letter (line_from l).fields)
-LineTold n s t k last (Err c) = First (number_of c.refusal) (tests_of t k last (line_of n s)) × (c.place ≡ suc k) × (c.column ≡ get_or (column_of n s) 0)
+LineTold n s t k last (Ok l) = (line_of n s ≡ some (line_from l)) × Met (tests (layout_of n) t k last (line_from l).letter (line_from l).fields)
+LineTold n s t k last (Err c) = First (number_of c.refusal) (tests_of (layout_of n) t k last (line_of n s)) × (c.place ≡ suc k) × (c.column ≡ get_or (column_of n s) 0)

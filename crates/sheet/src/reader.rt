@@ -1,30 +1,30 @@
 // Reading a sheet: its length is tested, then the lines from the first, each of which is put into the words or turns the sheet down.
 ghost use Rattle.std.specs.Prelude.{◌≡◌, ◌≤◌, ◌<◌, true, length, take};
 ghost use Rattle.scope.specs.Sheet as scope;
-ghost use Rattle.scope.specs.Sheet.{field_count, most_literals};
-ghost use Rattle.scope.specs.Causes.{clause, line_size, length_ok};
+ghost use Rattle.scope.specs.Sheet.{wish, weighted, most_literals};
+ghost use Rattle.scope.specs.Causes.{clause, weight_on, line_size, length_ok};
 ghost use Rattle.scope.specs.Sheets.{SheetRead};
 ghost use Rattle.scope.specs.Words.{literal_code, wish_words};
 ghost use Rattle.field.specs.Columns.{number_from};
 ghost use Rattle.words.specs.Entries.{counts_from};
 ghost use Rattle.words.specs.Told.{Fills};
-ghost use Rattle.line.specs.Lines.{numbers_from, line_from};
+ghost use Rattle.line.specs.Lines.{layout_of, numbers_from, line_from};
 ghost use Rattle.sheet.specs.Steps.{AreLiterals, Suited, Takes, LineTold};
 
 use causes::Place;
 use field::Number;
-use line::{FIELD_COUNT, Letter, Line, line_at, line_size};
+use line::{Letter, Line, WEIGHTED_FIELDS, line_at, line_size};
 use words::counts::{counts_of, put_head};
 use words::gate::{Gate, put_gate};
 use words::limit::MOST_LINES;
 use words::literal::Literal;
 use words::refusal::{Cause, Refusal};
 use words::rule::put_rule;
-use words::wish::{Codes, put_wish};
+use words::wish::{WishWords, put_wish};
 use words::{WORDS, Words};
 
-// In promises `3 ≤ N` and `N ≤ 4` say which forms there may be. A type with these facts would have no field, and be handed through the
-// same functions.
+// In promises `3 ≤ N` and `N ≤ 4` say which layouts there may be. A type with these facts would have no field, and be handed through
+// the same functions.
 
 // ---- a line that met its tests, into the words
 
@@ -35,20 +35,27 @@ fn code(x: Number) -> u32
     Literal::from(x).code()
 }
 
-// The codes of the wish that the first fields say, one by one: of each it is shown that it has a code.
-fn codes_of(numbers: &[Number]) -> Codes
-    requires wide { 3 ≤ length numbers.now }
-    requires literals { AreLiterals (take most_literals (numbers_from numbers.now)) }
-    ensures { result ≡ wish_words (clause (take most_literals (numbers_from numbers.now))) }
+// The words of the wish that a line says. Its codes one by one: of each field it is shown that it has a code.
+#[tactic(auto, using(crate::proofs::Literals::code_fits))]
+fn wish_words<const N: usize>(line: &Line<N>) -> WishWords
+    requires wide { 3 ≤ N }
+    requires literals { AreLiterals (take most_literals (numbers_from line.now.numbers)) }
+    ensures { result ≡ wish_words (wish (clause (take most_literals (numbers_from line.now.numbers))) (weight_on (layout_of N) (numbers_from line.now.numbers)).size) }
 {
-    [code(numbers[0]), code(numbers[1]), code(numbers[2])]
+    let numbers = &line.numbers;
+    [
+        code(numbers[0]),
+        code(numbers[1]),
+        code(numbers[2]),
+        line.weight().size,
+    ]
 }
 
 // By a match: each letter has an entry of its own.
 fn take_line<const N: usize>(words: &mut Words, line: &Line<N>)
     requires wide { 3 ≤ N }
     requires suited { Suited (line_from line.now) }
-    ensures { Takes (line_from line.now) words.old words.new }
+    ensures { Takes (layout_of N) (line_from line.now) words.old words.new }
 {
     let x = line.numbers[0].size;
     let y = line.numbers[1].size;
@@ -58,7 +65,7 @@ fn take_line<const N: usize>(words: &mut Words, line: &Line<N>)
         Letter::And => put_gate(words, Gate::And(x, y)),
         Letter::Or => put_gate(words, Gate::Or(x, y)),
         Letter::Rule => put_rule(words, x),
-        Letter::Wish => put_wish(words, codes_of(&line.numbers)),
+        Letter::Wish => put_wish(words, wish_words(line)),
         Letter::End => {}
     }
 }
@@ -85,9 +92,9 @@ fn line_in<const N: usize>(bytes: &[u8], place: &Place<N>) -> Result<Line<N>, Ca
 
 // The lines of a sheet whose length is right.
 fn read_lines<const N: usize>(s: &[u8], words: &mut Words) -> Result<(), Cause>
-    requires form { (3 ≤ N) × (N ≤ 4) }
+    requires fields { (3 ≤ N) × (N ≤ 4) }
     requires right { length_ok N (length s.now) ≡ true }
-    ensures { Fills (SheetRead N s.now) result words.new }
+    ensures { Fills (SheetRead (layout_of N) s.now) result words.new }
 {
     let size = line_size(N);
     let count = s.len() / size;
@@ -114,9 +121,9 @@ fn is_length<const N: usize>(bytes: usize) -> bool
 }
 
 // A sheet whose lines have N fields.
-fn read_form<const N: usize>(s: &[u8], words: &mut Words) -> Result<(), Cause>
+fn read_layout<const N: usize>(s: &[u8], words: &mut Words) -> Result<(), Cause>
     requires { (3 ≤ N) × (N ≤ 4) }
-    ensures { Fills (SheetRead N s.now) result words.new }
+    ensures { Fills (SheetRead (layout_of N) s.now) result words.new }
 {
     if !is_length::<N>(s.len()) {
         return Err(Cause::at(Refusal::Length, 0));
@@ -127,7 +134,7 @@ fn read_form<const N: usize>(s: &[u8], words: &mut Words) -> Result<(), Cause>
 // Fills the words with what a sheet says, or tells the first cause to turn it down. The words are lent: handed back by value, they are
 // copied several times, and Answer of the smallest sheet misses its bar.
 pub fn read(s: &[u8], words: &mut Words) -> Result<(), Cause>
-    ensures { Fills (SheetRead field_count s.now) result words.new }
+    ensures { Fills (SheetRead weighted s.now) result words.new }
 {
-    read_form::<FIELD_COUNT>(s, words)
+    read_layout::<WEIGHTED_FIELDS>(s, words)
 }
