@@ -8,6 +8,7 @@ use Rattle.scope.specs.Parsing.{Around, first, head, nested, operand, after, ope
 use Rattle.words.specs.Entries.{Kept, GatePut}
 use Rattle.scanner.specs.Look.{look, skip}
 use Rattle.scanner.specs.Tokens.{StuckAt, Came, SlotGood}
+use Rattle.scanner.specs.declared.token.Digits.TheVariants.{Two}
 use Rattle.formula.specs.declared.parsed.Parsed.{Parsed}
 use Rattle.formula.specs.declared.points.Points.{Points}
 use Rattle.scanner.specs.declared.token.Stuck.{Stuck}
@@ -70,7 +71,7 @@ LevelRead l s depth c g at (Err e) u v = Halted l s depth at e.0
 -- a single number, with so many points before its own
 pub record NumberIs (s : List ℕ) (at before most g : ℕ) (p : Parsed) : Type 0 where
   pub number : Token
-  pub read : SlotGood digits s false at number
+  pub read : SlotGood digits s false Two at number
   pub is : p ≡ record { at = number.at; point = before + number.value; known = leb number.value most; gates = g }
 
 abbrev pub Numbered : (s : List ℕ) (at before most g : ℕ) → Result Parsed Stuck → Type 0

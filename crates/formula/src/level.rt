@@ -9,7 +9,7 @@ use crate::parsed::Parsed;
 use crate::points::Points;
 use crate::sign::{closed, goes_on, operand_at};
 use scanner::reader::{BANG, look, skip};
-use scanner::token::{Stuck, number_at};
+use scanner::token::{Digits, Stuck, number_at};
 use words::Words;
 use words::gate::Gate;
 
@@ -28,7 +28,7 @@ fn numbered(s: &[u8], at: usize, before: u32, most: u32, gates: u32) -> Result<P
     requires { (at ≤ length s.now) × (before ≤ most_number) }
     ensures { Numbered s.now at before most gates result }
 {
-    let n = number_at(s, at, false)?;
+    let n = number_at(s, at, false, Digits::Two)?;
     Ok(Parsed {
         at: n.at,
         point: before + n.value,

@@ -1,6 +1,7 @@
 // Words and numbers of a text.
 ghost use Rattle.std.specs.Prelude.{◌≡◌, ◌≤◌, ◌<◌, length};
-ghost use Rattle.scanner.specs.Tokens.{WordRead, NumberRead, NamedRead};
+ghost use Rattle.scanner.specs.Tokens.{WordRead, longer, room_of, NumberRead, NamedRead};
+ghost use Rattle.scanner.specs.declared.token.Digits.TheVariants.{Four};
 ghost use Rattle.scanner.specs.Look as specs;
 
 use crate::reader::{look, past_word};
@@ -29,6 +30,13 @@ pub fn word_at(s: &[u8], at: usize, word: &[u8]) -> Result<usize, Stuck>
     Ok(end)
 }
 
+// How many digits a number may have.
+#[derive(Clone, Copy)]
+pub enum Digits {
+    Two,
+    Four,
+}
+
 // The digit that stands there, if one does.
 fn digit_at(s: &[u8], at: usize) -> Option<u32>
     ensures { result ≡ specs.digit s.now at }
@@ -37,11 +45,26 @@ fn digit_at(s: &[u8], at: usize) -> Option<u32>
     b.is_ascii_digit().then(|| u32::from(b - ZERO))
 }
 
-// A number from `at` on, with one or two digits and no leading zero; whether it may be 0. (`parse` takes any digits. A flag, as in the
-// scope's slots: two functions would be twins, here and below.)
-pub fn number_at(s: &[u8], at: usize, zero: bool) -> Result<Token, Stuck>
+// A number with the digit that comes next, if one does.
+fn longer(s: &[u8], n: Token) -> Token
+    requires { n.value < room_of Four }
+    ensures { result ≡ longer s.now n }
+{
+    match digit_at(s, n.at) {
+        Some(next) => Token {
+            at: n.at + 1,
+            value: n.value * 10 + next,
+        },
+        None => n,
+    }
+}
+
+// A number from `at` on, with no leading zero; whether it may be 0, and how many digits it may have. (`parse` takes any digits. A flag,
+// as in the scope's slots: two functions would be twins, here and below. And no loop, which would branch where the digits end, and be
+// guessed wrong there.)
+pub fn number_at(s: &[u8], at: usize, zero: bool, most: Digits) -> Result<Token, Stuck>
     requires { at ≤ length s.now }
-    ensures { NumberRead s.now zero at result }
+    ensures { NumberRead s.now zero most at result }
 {
     let Some(first) = digit_at(s, at) else {
         return Err(Stuck(at));
@@ -53,19 +76,17 @@ pub fn number_at(s: &[u8], at: usize, zero: bool) -> Result<Token, Stuck>
     if first == 0 {
         return if zero { Ok(one) } else { Err(Stuck(at)) };
     }
-    match digit_at(s, at + 1) {
-        Some(second) => Ok(Token {
-            at: at + 2,
-            value: first * 10 + second,
-        }),
-        None => Ok(one),
-    }
+    let two = longer(s, one);
+    Ok(match most {
+        Digits::Two => two,
+        Digits::Four => longer(s, longer(s, two)),
+    })
 }
 
-// A word and the number after it; whether that may be 0.
-pub fn named_at(s: &[u8], at: usize, word: &[u8], zero: bool) -> Result<Token, Stuck>
+// A word and the number after it; whether that may be 0, and how many digits it may have.
+pub fn named_at(s: &[u8], at: usize, word: &[u8], zero: bool, most: Digits) -> Result<Token, Stuck>
     requires { (at ≤ length s.now) × (0 < length word.now) }
-    ensures { NamedRead s.now word.now zero at result }
+    ensures { NamedRead s.now word.now zero most at result }
 {
-    number_at(s, word_at(s, at, word)?, zero)
+    number_at(s, word_at(s, at, word)?, zero, most)
 }

@@ -28,13 +28,13 @@ Faulted rss (Some f) = FirstLine (number_of f.refusal) f.line rss
 abbrev pub FirstOf : Option Fault → Result Unit Refusal → (line : ℕ) → Option Fault → Type 0
 FirstOf f tested line r = (rss : List (List Test)) (rs : List Test) → Faulted rss f → Tested rs tested → line ≡ length rss + 1 → Faulted (rss ++ rs ∷ []) r
 
--- the tests of a rule or a wish: whether there is room for it, and whether its numbers are on the sheet
+-- the tests of a rule, and the first ones of a wish: whether there is room for it, and whether its numbers are on the sheet
 abbrev pub room_tests : (room known : Bool) → List Test
 room_tests room known = (5, room) ∷ (6, known) ∷ []
 
--- with one more rule or wish
-abbrev pub FirstWith : Option Fault → (room known : Bool) (line : ℕ) → Option Fault → Type 0
-FirstWith f room known line r = (rss : List (List Test)) → Faulted rss f → line ≡ length rss + 1 → Faulted (rss ++ room_tests room known ∷ []) r
+-- with one more rule or wish, whose tests these are
+abbrev pub FirstWith : Option Fault → List Test → (line : ℕ) → Option Fault → Type 0
+FirstWith f rs line r = (rss : List (List Test)) → Faulted rss f → line ≡ length rss + 1 → Faulted (rss ++ rs ∷ []) r
 
 -- ---- the first two lines
 
@@ -101,4 +101,4 @@ pub record WithRule (l : Lines) (p : Parsed) (r : Lines) : Type 0 where
   pub gates : r.gates ≡ p.gates
   pub rules : r.rules ≡ l.rules + 1
   pub wishes : r.wishes ≡ l.wishes
-  pub fault : FirstWith l.fault (leb p.gates most_gates && ltb l.rules most_rules) p.known (l.rules + l.wishes + 3) r.fault
+  pub fault : FirstWith l.fault (room_tests (leb p.gates most_gates && ltb l.rules most_rules) p.known) (l.rules + l.wishes + 3) r.fault

@@ -3,7 +3,7 @@ ghost use Rattle.text.specs.Lines.{HeadRead, HeadLines};
 
 use crate::lines::{Lines, first_of};
 use formula::points::Points;
-use scanner::token::{Stuck, named_at, word_at};
+use scanner::token::{Digits, Stuck, named_at, word_at};
 use words::limit::{MOST_FAULTS, MOST_SWITCHES};
 use words::refusal::{Refusal, require};
 
@@ -18,8 +18,8 @@ pub struct Head {
 pub fn head_at(s: &[u8]) -> Result<Head, Stuck>
     ensures { HeadRead s.now result }
 {
-    let switches = named_at(s, 0, b"switches ", true)?;
-    let faults = named_at(s, switches.at, b"\nfaults ", true)?;
+    let switches = named_at(s, 0, b"switches ", true, Digits::Two)?;
+    let faults = named_at(s, switches.at, b"\nfaults ", true, Digits::Two)?;
     let at = word_at(s, faults.at, b"\n")?;
     let points = Points {
         switches: switches.value,

@@ -2,7 +2,7 @@
 ghost use Rattle.std.specs.Prelude.{◌+◌, ◌≤◌};
 ghost use Rattle.scope.specs.Typed.{most_text};
 ghost use Rattle.words.specs.Refusals.{Tested};
-ghost use Rattle.text.specs.Lines.{FirstOf, room_tests, FirstWith};
+ghost use Rattle.text.specs.Lines.{FirstOf, room_tests};
 
 use words::refusal::{Refusal, require};
 
@@ -33,8 +33,8 @@ pub fn first_of(f: Option<Fault>, tested: Result<(), Refusal>, line: usize) -> O
     f.or(tested.err().map(|refusal| Fault { refusal, line }))
 }
 
-// The tests of a rule or a wish.
-fn tests(room: bool, known: bool) -> Result<(), Refusal>
+// The tests of a rule, and the first ones of a wish: whether there is room for it, and whether its numbers are on the sheet.
+pub fn tests(room: bool, known: bool) -> Result<(), Refusal>
     ensures { Tested (room_tests room known) result }
 {
     require(room, Refusal::Limit)?;
@@ -42,13 +42,13 @@ fn tests(room: bool, known: bool) -> Result<(), Refusal>
 }
 
 impl Lines {
-    // The first fault, also of one more rule or wish: whether there was room for it, and whether its numbers are on the sheet. (That the
-    // figures are small is no invariant of the lines, as it would have to be shown of one more before the text says so.)
-    pub fn fault_with(self, room: bool, known: bool) -> Option<Fault>
+    // The first fault, also of one more rule or wish, whose own tests came out so. (That the figures are small is no invariant of the
+    // lines, as it would have to be shown of one more before the text says so.)
+    pub fn fault_with(self, tested: Result<(), Refusal>) -> Option<Fault>
         requires { self.rules + self.wishes ≤ most_text }
-        ensures { FirstWith self.fault room known (self.rules + self.wishes + 3) result }
+        ensures { FirstOf self.fault tested (self.rules + self.wishes + 3) result }
     {
         let line = self.rules as usize + self.wishes as usize + HEAD_LINES + 1;
-        first_of(self.fault, tests(room, known), line)
+        first_of(self.fault, tested, line)
     }
 }

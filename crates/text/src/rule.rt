@@ -4,7 +4,7 @@ ghost use Rattle.scope.specs.Typed.{most_text};
 ghost use Rattle.scanner.specs.Look as place;
 ghost use Rattle.text.specs.Lines.{rule_letter, NoMore, Later, RulesTold, RulesRead, WithRule};
 
-use crate::lines::Lines;
+use crate::lines::{Lines, tests};
 use formula::level::or_level;
 use formula::parsed::Parsed;
 use formula::points::Points;
@@ -30,7 +30,7 @@ fn with_rule(l: Lines, p: Parsed) -> Lines
         at: p.at,
         gates: p.gates,
         rules: l.rules + 1,
-        fault: l.fault_with(room, p.known),
+        fault: l.fault_with(tests(room, p.known)),
         ..l
     }
 }

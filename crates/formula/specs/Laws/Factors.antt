@@ -6,11 +6,12 @@ use Rattle.std.proofs.lemmas.Bool.{eqb-false}
 use Rattle.scope.specs.Sheet.{Sheet, sheet, Gate}
 use Rattle.scope.specs.Typed.{Formula, typed, ors, factor, most_nested, operators, point, gates_of, known}
 use Rattle.scope.specs.Parsing as parsing
-use Rattle.scope.specs.Parsing.{Around, line, Slot, digits, zero_ok, number_done, bracket, first, head, bang, nested, operand, after, operand_done}
+use Rattle.scope.specs.Parsing.{Around, line, Slot, digits, zero_ok, room, number_done, bracket, first, head, bang, nested, operand, after, operand_done}
 use Rattle.scope.proofs.Laws.Tests.{clash}
 use Rattle.words.specs.Entries.{Kept}
 use Rattle.scanner.specs.Look.{end, byte_of, look, skip}
-use Rattle.scanner.specs.Tokens.{Came}
+use Rattle.scanner.specs.Tokens.{Came, room_of}
+use Rattle.scanner.specs.declared.token.Digits.TheVariants.{Two}
 use Rattle.formula.specs.Formulas.{Built, OrsCome, Halted, Good, LevelRead, Numbered, AtomRead, Asked, goes_deeper, not_sign, open_sign, and_sign, or_sign, sign_at, gated, Gated, moved, ended_of, closed_of}
 use Rattle.formula.specs.declared.parsed.Parsed.{Parsed}
 use Rattle.formula.specs.declared.points.Points.{Points}
@@ -140,30 +141,30 @@ any = head (first (line (typed 0 0 [] [])))
 
 module _ {s : List ℕ} (c : Points) {g at : ℕ} (asked : Asked s g at) where
   -- a switch or a fault: the walk goes on with the number of its slot, and no gate is added
-  atom_read : (before most : ℕ) (x : ℕ → Formula) (slot : Around factor → Slot) → ((k : Around factor) → zero_ok (slot k) ≡ false) → ((k : Around factor) (n : ℕ) → number_done (slot k) n ≡ operand_done k (x n)) → ((k : Around factor) → Came s (operand k) at (digits (slot k)) (at + 1))
+  atom_read : (before most : ℕ) (x : ℕ → Formula) (slot : Around factor → Slot) → ((k : Around factor) → zero_ok (slot k) ≡ false) → ((k : Around factor) → room (slot k) ≡ room_of Two) → ((k : Around factor) (n : ℕ) → number_done (slot k) n ≡ operand_done k (x n)) → ((k : Around factor) → Came s (operand k) at (digits (slot k)) (at + 1))
       → ((n : ℕ) → (operators (x n) ≡ 0) × (gates_of c.switches c.faults g (x n) ≡ []) × (point c.switches c.faults g (x n) ≡ before + n) × (known c.switches c.faults (x n) ≡ leb n most))
       → (r : Result Parsed Stuck) → Numbered s (at + 1) before most g r → AtomRead s c g at r
-  atom_read before most x slot none done to single (Err e) h depth u = record { within = (h (slot any) (none any)).within; bad = λ k m. came_stuck (to k) (h (slot k) (none k)) }
-  atom_read before most x slot none done to single (Ok p) h depth u =
+  atom_read before most x slot none short done to single (Err e) h depth u = record { within = (h (slot any) (none any)).within; bad = λ k m. came_stuck (to k) (h (slot k) (none k)) }
+  atom_read before most x slot none short done to single (Ok p) h depth u =
       let n : Token = h.number in
       let (no-operators, no_gates, point_is, known_is) = single n.value in
-      let l : at + 1 < n.at = (h.read.came (slot any) (none any)).ahead in
+      let l : at + 1 < n.at = (h.read.came (slot any) (none any) (short any)).ahead in
       rw h.is record {
         formula = x n.value;
-        within = (h.read.came (slot any) (none any)).within;
+        within = (h.read.came (slot any) (none any) (short any)).within;
         few = omega (arith, asked.few, asked.within, asked.short);
-        came = λ k e. subst (λ st. Came s (operand k) at st n.at) (done k n.value) (came_came (to k) (h.read.came (slot k) (none k)));
+        came = λ k e. subst (λ st. Came s (operand k) at st n.at) (done k n.value) (came_came (to k) (h.read.came (slot k) (none k) (short k)));
         built = record { ahead = omega arith; gates = omega arith; known = sym known_is; point = sym point_is };
         filled = λ t o. rw (no_gates, append-nil t.gates) o;
       }
 
   pub switch_read : look s at ≡ code "s" → (r : Result Parsed Stuck) → Numbered s (at + 1) 0 c.switches g r → AtomRead s c g at r
   unfolding number_done operators gates_of point known
-  switch_read e = atom_read 0 c.switches Formula.switch parsing.switch (λ k. refl) (λ k n. refl) (λ k. switch_walk s k at e) (λ n. (refl, refl, omega arith, refl))
+  switch_read e = atom_read 0 c.switches Formula.switch parsing.switch (λ k. refl) (λ k. refl) (λ k n. refl) (λ k. switch_walk s k at e) (λ n. (refl, refl, omega arith, refl))
 
   pub fault_read : look s at ≡ code "f" → (r : Result Parsed Stuck) → Numbered s (at + 1) c.switches c.faults g r → AtomRead s c g at r
   unfolding number_done operators gates_of point known
-  fault_read e = atom_read c.switches c.faults Formula.fault parsing.fault (λ k. refl) (λ k n. refl) (λ k. fault_walk s k at e) (λ n. (refl, refl, refl, refl))
+  fault_read e = atom_read c.switches c.faults Formula.fault parsing.fault (λ k. refl) (λ k. refl) (λ k n. refl) (λ k. fault_walk s k at e) (λ n. (refl, refl, refl, refl))
 
   -- no operand begins so
   pub no_atom : look s at ≢ code "s" → look s at ≢ code "f" → goes_deeper (look s at) ≡ false → AtomRead s c g at (Err record { 0 = at })

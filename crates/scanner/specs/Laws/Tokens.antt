@@ -1,17 +1,20 @@
 -- How a walk goes on over words and numbers. Assumes nothing.
 -- A theorem that was given stays, though nothing cites it: `named_good`.
-use Rattle.std.proofs.Common.{ℕ, suc, ◌+◌, ◌-◌, ◌*◌, ◌≤◌, ◌<◌, arith, IsErrAnd, Some, None, Result, Ok, Err, Bool, true, false, cond, List, [], ◌∷◌, ◌≢◌, ◌≡◌, eqb, drop, refl, ap, ◌∙◌, ne_eqb, length, length-drop, drop-drop}
+use Rattle.std.proofs.Common.{le-ltb, ℕ, suc, ◌+◌, ◌-◌, ◌*◌, ◌⊎◌, inl, inr, ⊎_elim, ◌≤◌, ◌<◌, arith, IsErrAnd, Option, Some, None, Result, Ok, Err, Bool, true, false, cond, List, [], ◌∷◌, ◌≢◌, ◌≡◌, eqb, drop, refl, ap, ◌∙◌, ne_eqb, length, length-drop, drop-drop}
+use Rattle.std.proofs.Math.Decide.{dec_le}
 use Prim.Native.Char.{code}
 use Rattle.std.proofs.Math.Option.{none, some}
-use Rattle.scope.specs.Parsing.{Slot, State, stuck, word, digits, second, number_done, zero_ok, is_digit, move, step, at_end, walk}
+use Rattle.scope.specs.Parsing.{Slot, State, stuck, word, digits, further, room, grown, number_done, zero_ok, is_digit, move, step, at_end, walk}
 use Rattle.scope.proofs.Laws.Tests.{clash}
-use Rattle.scope.proofs.Laws.Reached.{digit_byte}
-use Rattle.scope.proofs.Laws.Walked.{number_plain}
+use Rattle.scope.proofs.Laws.Reached.{room_between, digit_byte}
+use Rattle.scope.proofs.Laws.Walked.{number_plain, grown_further}
 use Rattle.scanner.specs.Look.{end, look, digit, shared, standing, past}
-use Rattle.scanner.specs.Tokens.{StuckAt, Came, rest, SlotGood, WordRead, NumberRead, NamedRead}
+use Rattle.scanner.specs.Tokens.{StuckAt, Came, rest, room_of, with_digit, longer, SlotGood, WordRead, NumberRead, NamedRead}
+use Rattle.scanner.specs.declared.token.Digits.{Digits}
+use Rattle.scanner.specs.declared.token.Digits.TheVariants.{Two, Four}
 use Rattle.scanner.specs.declared.token.Stuck.{Stuck}
 use Rattle.scanner.specs.declared.token.Token.{Token}
-use Rattle.scanner.specs.Laws.Walks.{past_within, came, stops, came_came, came_stuck, alike}
+use Rattle.scanner.specs.Laws.Walks.{stands, past_within, came, stops, came_came, came_stuck, alike}
 
 -- ---- the bytes of a word
 
@@ -89,6 +92,9 @@ digit_is s i n e = go (is_digit (look s i)) refl e
     go true f e = let m : look s i - code "0" ≡ n = cc in (f, omega (arith, digit_byte (look s i) f), omega (arith, digit_byte (look s i) f))
     go false f e = cc
 
+pub digit_stands : (s : List ℕ) (i n : ℕ) → digit s i ≡ Some n → i < length s
+digit_stands s i n e = stands s i (omega (arith, digit_is s i n e))
+
 pub digit_isnt : (s : List ℕ) (i : ℕ) → digit s i ≡ None → is_digit (look s i) ≡ false
 unfolding digit
 digit_isnt s i e = go (is_digit (look s i)) refl e
@@ -103,72 +109,117 @@ no_zero_digit b e f = clash (ap is_digit e) f
 
 -- ---- numbers
 
--- a first digit, and more to come
-digit_read : {s : List ℕ} {at n : ℕ} → digit s at ≡ Some n → n ≢ 0 → (slot : Slot) → Came s (digits slot) at (second slot n) (at + 1)
+-- so many digits have been looked for from `at` on that what they make is below `bound`, and t is made of those that stand there
+pub record DigitsRead (s : List ℕ) (most : Digits) (at bound : ℕ) (t : Token) : Type 0 where
+  pub some : 0 < t.value
+  pub few : t.value < bound
+  pub came : (slot : Slot) → room slot ≡ room_of most → Came s (digits slot) at (grown slot t.value) t.at
+  pub all : (bound ≤ t.value * 10) ⊎ (digit s t.at ≡ None)
+
+-- a first digit, after which one more may come in any slot
+pub digits_first : {s : List ℕ} {at n : ℕ} → digit s at ≡ Some n → n ≢ 0 → (most : Digits) → DigitsRead s most at 10 record { at = at + 1; value = n }
 unfolding step move
-digit_read {s} {at} {n} e first slot =
+digits_first {s} {at} {n} e first most =
     let (d, l, m) = digit_is s at n e in
     let k : look s at - code "0" ≡ n = omega arith in
     let z : look s at ≢ code "0" = omega arith in
-    came s (digits slot) (second slot n) at (omega arith) (rw (ne_eqb (look s at) (code "0") z, d, k) refl)
+    record {
+      some = omega arith;
+      few = omega arith;
+      came = λ slot h. came s (digits slot) (grown slot n) at (omega arith) (rw (ne_eqb (look s at) (code "0") z, d, k, grown_further slot n (omega (arith, room_between slot))) refl);
+      all = inl (omega arith);
+    }
 
-module _ {s : List ℕ} (zero : Bool) {at : ℕ} where
+module _ {s : List ℕ} {most : Digits} {at bound : ℕ} {t : Token} (h : DigitsRead s most at bound t) where
+  -- one more, where it may come
+  digits_more : {m : ℕ} → bound ≤ room_of most → digit s t.at ≡ Some m → DigitsRead s most at (bound * 10) record { at = t.at + 1; value = t.value * 10 + m }
+  unfolding step
+  digits_more {m} l e =
+      let (d, k, n) = digit_is s t.at m e in
+      let j : look s t.at - code "0" ≡ m = omega arith in
+      let more : t.value < room_of most = omega (arith, h.few) in
+      record {
+        some = omega (arith, h.some);
+        few = omega (arith, h.few);
+        came = λ slot r. came_came (h.came slot r) (came s (grown slot t.value) (grown slot (t.value * 10 + m)) t.at (omega arith) (rw (grown_further slot t.value (omega arith), d, j) refl));
+        all = inl (⊎_elim (λ w. omega arith) (λ w. cc) h.all);
+      }
+
+  -- where none stands, there are no more
+  digits_none : digit s t.at ≡ None → DigitsRead s most at (bound * 10) t
+  digits_none e = record { some = h.some; few = omega (arith, h.few); came = h.came; all = inr e }
+
+  pub digits_longer : {r : Token} → bound ≤ room_of most → r ≡ longer s t → DigitsRead s most at (bound * 10) r
+  unfolding longer
+  digits_longer l q = rw q (go (digit s t.at) refl)
+    where
+      go : (o : Option ℕ) → digit s t.at ≡ o → DigitsRead s most at (bound * 10) (with_digit t o)
+      go (Some m) e = digits_more l e
+      go None e = digits_none e
+
+  -- a byte that is no digit moves on from the digits as from a number that is complete
+  digits_ended : t.value < room_of most → digit s t.at ≡ None → (slot : Slot) → room slot ≡ room_of most → Came s (digits slot) at (number_done slot t.value) t.at
+  unfolding step at_end
+  digits_ended l e slot r =
+      let c = h.came slot r in
+      let (m, f) = number_plain slot t.value in
+      let g : grown slot t.value ≡ further slot t.value = grown_further slot t.value (omega arith) in
+      record { ahead = c.ahead; within = c.within; walk = c.walk ∙ rw g (alike s (further slot t.value) (number_done slot t.value) t.at (rw (digit_isnt s t.at e, m (look s t.at))) (rw f)) }
+
+  -- and where no more may come it is complete
+  digits_full : room_of most ≤ t.value → (slot : Slot) → room slot ≡ room_of most → Came s (digits slot) at (number_done slot t.value) t.at
+  unfolding grown
+  digits_full l slot r = rw (le-ltb t.value (room slot) (omega arith)) at (h.came slot r)
+
+  -- all digits have been looked for
+  pub digits_all : (zero : Bool) → bound ≡ room_of most * 10 → SlotGood digits s zero most at t
+  digits_all zero q = record { came = λ slot z. go h.all (dec_le (room_of most) t.value) slot; few = omega (arith, h.few) }
+    where
+      go : ((bound ≤ t.value * 10) ⊎ (digit s t.at ≡ None)) → Dec (room_of most ≤ t.value) → (slot : Slot) → room slot ≡ room_of most → Came s (digits slot) at (number_done slot t.value) t.at
+      go w (yes l) = digits_full l
+      go (inl w) (no l) = absurd (omega arith)
+      go (inr w) (no l) = digits_ended (omega arith) w
+
+room_some : (most : Digits) → 0 < room_of most
+room_some Two = omega arith
+room_some Four = omega arith
+
+module _ {s : List ℕ} (zero : Bool) (most : Digits) {at : ℕ} where
   -- no number begins here
   number_bad : at ≤ length s → ((slot : Slot) → zero_ok slot ≡ zero → step (digits slot) (look s at) ≡ none) → (slot : Slot) → zero_ok slot ≡ zero → StuckAt s (digits slot) at at
   unfolding at_end
   number_bad within e slot h = stops s (digits slot) at within (e slot h) refl
 
-  pub number_none : at ≤ length s → digit s at ≡ None → (slot : Slot) → zero_ok slot ≡ zero → StuckAt s (digits slot) at at
+  pub number_none : at ≤ length s → digit s at ≡ None → NumberRead s zero most at (Err record { 0 = at })
   unfolding step move
   number_none within e = number_bad within (λ slot h. let d : is_digit (look s at) ≡ false = digit_isnt s at e in rw (ne_eqb (look s at) (code "0") (λ f. no_zero_digit (look s at) f d), d))
 
   -- a zero ends the number, where it may stand
-  pub number_zero : digit s at ≡ Some 0 → zero ≡ true → SlotGood digits s zero at record { at = at + 1; value = 0 }
+  pub number_zero : {n : ℕ} → digit s at ≡ Some n → n ≡ 0 → zero ≡ true → SlotGood digits s zero most at record { at = at + 1; value = n }
   unfolding step move
-  number_zero e z =
-      let (d, l, n) = digit_is s at 0 e in
-      record {
-        came = λ slot h. came s (digits slot) (number_done slot 0) at (omega arith) (rw (l, h, z));
-        few = omega arith;
+  number_zero {n} e f z =
+      let (d, l, m) = digit_is s at n e in
+      let b : look s at ≡ code "0" = omega arith in
+      rw f record {
+        came = λ slot h r. came s (digits slot) (number_done slot 0) at (omega arith) (rw (b, h, z));
+        few = omega (arith, room_some most);
       }
 
-  pub number_no_zero : at ≤ length s → digit s at ≡ Some 0 → zero ≡ false → (slot : Slot) → zero_ok slot ≡ zero → StuckAt s (digits slot) at at
+  pub number_no_zero : at ≤ length s → {n : ℕ} → digit s at ≡ Some n → n ≡ 0 → zero ≡ false → NumberRead s zero most at (Err record { 0 = at })
   unfolding step move
-  number_no_zero within e z = number_bad within (λ slot h. let (d, l, n) = digit_is s at 0 e in rw (l, h, z))
-
-  module _ {n : ℕ} (e : digit s at ≡ Some n) (first : n ≢ 0) where
-    -- a byte that is no digit moves on from a first digit as from a number that is complete
-    pub number_one : digit s (at + 1) ≡ None → SlotGood digits s zero at record { at = at + 1; value = n }
-    unfolding step at_end
-    number_one d = record {
-      came = λ slot h.
-          let c : Came s (digits slot) at (second slot n) (at + 1) = digit_read e first slot in
-          let (m, f) = number_plain slot n in
-          record { ahead = c.ahead; within = c.within; walk = c.walk ∙ alike s (second slot n) (number_done slot n) (at + 1) (rw (digit_isnt s (at + 1) d, m (look s (at + 1)))) (rw f) };
-      few = omega (arith, (digit_is s at n e).2);
-    }
-
-    -- two digits, one step each
-    pub number_two : {m : ℕ} → digit s (at + 1) ≡ Some m → SlotGood digits s zero at record { at = at + 2; value = n * 10 + m }
-    unfolding step
-    number_two {m} f = record {
-      came = λ slot z.
-          let (d, l, few) = digit_is s (at + 1) m f in
-          let c : Came s (digits slot) at (second slot n) (at + 1) = digit_read e first slot in
-          let k : at + 1 + 1 ≡ at + 2 = omega arith in
-          let i : look s (at + 1) - code "0" ≡ m = omega arith in
-          came_came c (rw k at (came s (second slot n) (number_done slot (n * 10 + m)) (at + 1) (omega arith) (rw (d, i) refl)));
-      few = omega (arith, (digit_is s at n e).2, (digit_is s (at + 1) m f).2);
-    }
+  number_no_zero within {n} e f z =
+      let (d, l, m) = digit_is s at n e in
+      let b : look s at ≡ code "0" = omega arith in
+      number_bad within (λ slot h. rw (b, h, z))
 
 -- ---- a word and a number
 
-module _ {s : List ℕ} (w : List ℕ) (zero : Bool) {at : ℕ} where
-  pub named_bad : {e : Stuck} → WordRead s w at (Err e) → NamedRead s w zero at (Err e)
+module _ {s : List ℕ} (w : List ℕ) (zero : Bool) (most : Digits) {at : ℕ} where
+  pub named_bad : {e : Stuck} → WordRead s w at (Err e) → NamedRead s w zero most at (Err e)
   named_bad h slot z = h (digits slot)
 
-  pub named_good : {n : ℕ} → WordRead s w at (Ok n) → (r : Result Token Stuck) → NumberRead s zero n r → NamedRead s w zero at r
-  named_good h (Ok t) n = record { came = λ slot z. came_came (h (digits slot)) (n.came slot z); few = n.few }
+  pub named_good : {n : ℕ} → WordRead s w at (Ok n) → (r : Result Token Stuck) → NumberRead s zero most n r → NamedRead s w zero most at r
+  named_good h (Ok t) n = record { came = λ slot z r. came_came (h (digits slot)) (n.came slot z r); few = n.few }
   named_good h (Err e) n = λ slot z. came_stuck (h (digits slot)) (n slot z)
 
 -- ---- the exit of a `?`

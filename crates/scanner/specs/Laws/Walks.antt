@@ -161,6 +161,12 @@ came_stuck c d = record { within = d.within; walk = c.walk ∙ d.walk }
 
 -- ---- two states that go on alike from a place
 
+pub alike_came : {s : List ℕ} {st to more : State} {at n : ℕ} → walk st (drop at s) ≡ walk to (drop at s) → Came s to at more n → Came s st at more n
+alike_came e c = record { ahead = c.ahead; within = c.within; walk = e ∙ c.walk }
+
+pub alike_stuck : {s : List ℕ} {st to : State} {at n : ℕ} → walk st (drop at s) ≡ walk to (drop at s) → StuckAt s to at n → StuckAt s st at n
+alike_stuck e h = record { within = h.within; walk = e ∙ h.walk }
+
 -- a byte stands there, so the end of the text does not count
 pub alike_within : (s : List ℕ) (st to : State) (at : ℕ) → at < length s → step st (look s at) ≡ step to (look s at) → walk st (drop at s) ≡ walk to (drop at s)
 alike_within s st to at h e = walk_byte s st at h ∙ ap (λ o. go_on o (length s - at) (λ st. walk st (drop (at + 1) s))) e ∙ sym (walk_byte s to at h)

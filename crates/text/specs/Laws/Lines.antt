@@ -1,11 +1,11 @@
 -- What the steps over the head and the rule lines give is put together. Assumes nothing.
 -- A theorem that was given stays, though nothing cites it: `rule_asked`.
-use Rattle.std.proofs.Common.{ℕ, suc, ◌+◌, ◌-◌, ◌≤◌, ◌<◌, arith, Bool, Option, None, Some, Result, Ok, Err, cond, ◌&&◌, ◌≢◌, ◌≡◌, true, false, List, [], ◌∷◌, ◌++◌, append_assoc, append-nil, refl, sym, ap, ap₂, subst, ◌∙◌, eqb, leb, ltb, length, length-append, eqb-true}
+use Rattle.std.proofs.Common.{ℕ, suc, ◌+◌, ◌≤◌, ◌<◌, arith, Bool, Option, None, Some, Result, Ok, Err, cond, ◌&&◌, ◌≢◌, ◌≡◌, true, false, List, [], ◌∷◌, ◌++◌, append_assoc, append-nil, refl, sym, ap, ap₂, subst, ◌∙◌, eqb, leb, ltb, length, length-append, eqb-true}
 use Rattle.std.proofs.lemmas.Bool.{eqb-false}
 use Prim.Native.Char.{code}
 use Rattle.std.specs.Option.{option_or, option_map}
-use Rattle.std.specs.Result.{result_err}
-use Rattle.scope.specs.Sheet.{Sheet, sheet, Clause, All, most_switches, most_faults, most_gates, most_rules}
+use Rattle.std.specs.Result.{result_and, result_err}
+use Rattle.scope.specs.Sheet.{Sheet, sheet, Wish, All, most_switches, most_faults, most_gates, most_rules}
 use Rattle.scope.specs.Causes.{Test, Met, First}
 use Rattle.scope.specs.Causes as causes
 use Rattle.scope.specs.Text.{bytes}
@@ -26,6 +26,7 @@ use Rattle.scanner.specs.Laws.Walks.{stands, came_came, came_stuck, alike_within
 use Rattle.formula.specs.Laws.Signs.{feed_walk, feed_stuck}
 use Rattle.formula.specs.declared.parsed.Parsed.{Parsed}
 use Rattle.formula.specs.declared.points.Points.{Points}
+use Rattle.scanner.specs.declared.token.Digits.TheVariants.{Two}
 use Rattle.scanner.specs.declared.token.Stuck.{Stuck}
 use Rattle.scanner.specs.declared.token.Token.{Token}
 use Rattle.text.specs.Lines.{Faulted, FirstOf, HeadRead, room_tests, rule_letter, RulesTold, WithRule}
@@ -78,28 +79,34 @@ test_met n true ts r u q (Ok v) h = (refl, h)
 test_met n true ts r u q (Err e) h = causes.later h
 test_met n false ts r u q t h = cc
 
+-- tests behind others
+pub tests_and : (ts us : List Test) (t u : Result (Unit {0}) Refusal) → Tested ts t → Tested us u → Tested (ts ++ us) (result_and t u)
+tests_and [] us (Ok x) u g h = h
+tests_and [] us (Err e) u g h = elim g [ ]
+tests_and ((n, b) ∷ ts) us (Ok x) (Ok y) g h = (g.0, tests_and ts us (Ok x) (Ok y) g.1 h)
+tests_and ((n, b) ∷ ts) us (Ok x) (Err e) g h = rw g.0 (causes.later (tests_and ts us (Ok x) (Err e) g.1 h))
+tests_and ((n, b) ∷ ts) us (Err e) u causes.here h = causes.here
+tests_and ((n, b) ∷ ts) us (Err e) u (causes.later g) h = causes.later (tests_and ts us (Err e) u g h)
+
 -- ---- the first two lines
 
 module _ {s : List ℕ} where
-  pub switches_bad : {e : Stuck} → NamedRead s (bytes "switches ") true 0 (Err e) → HeadRead s (Err e)
-  switches_bad h = h switches refl
-
-  module _ {a : Token} (ha : NamedRead s (bytes "switches ") true 0 (Ok a)) where
+  module _ {a : Token} (ha : NamedRead s (bytes "switches ") true Two 0 (Ok a)) where
     to_faults : Came s start 0 (word (bytes "\nfaults ") (digits (faults a.value))) a.at
     unfolding number_done
-    to_faults = ha.came switches refl
+    to_faults = ha.came switches refl refl
 
     pub faults_within : a.at ≤ length s
     faults_within = to_faults.within
 
-    pub faults_bad : {e : Stuck} → NamedRead s (bytes "\nfaults ") true a.at (Err e) → HeadRead s (Err e)
+    pub faults_bad : {e : Stuck} → NamedRead s (bytes "\nfaults ") true Two a.at (Err e) → HeadRead s (Err e)
     faults_bad h = came_stuck to_faults (h (faults a.value) refl)
 
-    module _ {f : Token} (hf : NamedRead s (bytes "\nfaults ") true a.at (Ok f)) where
+    module _ {f : Token} (hf : NamedRead s (bytes "\nfaults ") true Two a.at (Ok f)) where
       -- past both numbers a line feed is looked for
       to_feed : Came s start 0 (word (bytes "\n") (rule_line (typed a.value f.value [] []))) f.at
       unfolding number_done
-      to_feed = came_came to_faults (hf.came (faults a.value) refl)
+      to_feed = came_came to_faults (hf.came (faults a.value) refl refl)
 
       pub feed_within : f.at ≤ length s
       feed_within = to_feed.within
@@ -159,20 +166,14 @@ module _ (a f : ℕ) where
   rule_count n i [] = refl
   rule_count n i (y ∷ ys) = ap suc (rule_count (n + operators y) (suc i) ys)
 
-  wish_count : (j : ℕ) (ws : List Clause) → length (wish_tests a f j ws) ≡ length ws
+  wish_count : (j : ℕ) (ws : List Wish) → length (wish_tests a f j ws) ≡ length ws
   unfolding wish_tests
   wish_count j [] = refl
   wish_count j (w ∷ ws) = ap suc (wish_count (suc j) ws)
 
-  pub line_count_lem : (ys : List Formula) (ws : List Clause) → length (line_tests (typed a f ys ws)) ≡ 2 + length ys + length ws
+  pub line_count_lem : (ys : List Formula) (ws : List Wish) → length (line_tests (typed a f ys ws)) ≡ 2 + length ys + length ws
   unfolding line_tests
   line_count_lem ys ws = omega (arith, length-append (rule_tests a f 0 0 ys) (wish_tests a f 0 ws), rule_count 0 0 ys, wish_count 0 ws)
-
--- ---- from line to line
-
--- less is left after one more line, which ends at m
-pub lines_less : (s : List ℕ) (n m : ℕ) → n < m → m ≤ length s → length s - m < length s - n
-lines_less s n m h w = omega arith
 
 -- ---- a rule line
 

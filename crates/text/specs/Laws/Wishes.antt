@@ -1,26 +1,28 @@
 -- What the steps over wish lines give is put together literal by literal and line by line. Assumes nothing.
-use Rattle.std.proofs.Common.{ℕ, suc, ◌+◌, ◌-◌, ◌≤◌, ◌<◌, add-zero, zero-add, arith, Result, Ok, Err, Bool, ◌&&◌, ◌≢◌, ◌≡◌, leb, drop, replicate, true, false, List, [], ◌∷◌, ◌++◌, append_assoc, refl, ap, ◌∙◌, eqb, ltb, length, ltb-true, eqb-true, lt-ltb, le-ltb, ne_eqb}
+use Rattle.std.proofs.Common.{ℕ, suc, ◌+◌, ◌-◌, ◌≤◌, ◌<◌, add-zero, zero-add, arith, Result, Ok, Err, Bool, not, ◌&&◌, ◌≢◌, ◌≡◌, leb, drop, get_or, replicate, true, false, List, [], ◌∷◌, ◌++◌, append_assoc, refl, sym, ap, ◌∙◌, eqb, ltb, length, ltb-true, eqb-true, lt-ltb, le-ltb, ne_eqb}
+use Rattle.std.proofs.lemmas.Bool.{eqb-false, not-true}
 use Prim.Native.Char.{code}
 use Rattle.std.proofs.Math.Decide.{dec_le}
-use Rattle.std.proofs.Math.Option.{none}
-use Rattle.scope.specs.Sheet.{Clause, most_wishes, most_literals}
-use Rattle.scope.specs.Causes.{Test}
+use Rattle.scope.specs.Sheet.{plus, Clause, Wish, wish as wishOf, most_wishes, most_literals}
+use Rattle.scope.specs.Causes.{Test, is_weight}
 use Rattle.scope.specs.Meaning.{all}
 use Rattle.scope.specs.Text.{bytes}
-use Rattle.scope.specs.Typed.{Formula, Typed, typed, most_text, wish_tests, line_tests, sheet_of}
-use Rattle.scope.specs.Parsing.{State, word, literal, start, wish_line, wish, ended, add_wish, number_done, move, step, at_end, walk}
+use Rattle.scope.specs.Typed as scope
+use Rattle.scope.specs.Typed.{Formula, Typed, typed, line_tests, sheet_of}
+use Rattle.scope.specs.Parsing.{State, word, digits, feed, literal, weight, start, wish_line, wish, ended, another, add_wish, number_done, move, step, at_end, walk}
 use Rattle.scope.proofs.Laws.Tests.{clash, both}
 use Rattle.scope.proofs.Laws.Lists.{length_snoc}
 use Rattle.words.specs.Entries.{WishPut, literal_of}
 use Rattle.scanner.specs.Look.{look, past}
 use Rattle.scanner.specs.Tokens.{StuckAt, Came, WordRead, NamedRead}
+use Rattle.scanner.specs.declared.token.Digits.TheVariants.{Two, Four}
 use Rattle.scanner.specs.declared.token.Stuck.{Stuck}
 use Rattle.words.specs.declared.literal.Literal.{Literal}
-use Rattle.scanner.specs.Laws.Walks.{stands, past_moved, past_stayed, came, stops, came_came, came_stuck, alike, alike_within}
+use Rattle.scanner.specs.Laws.Walks.{stands, past_moved, past_stayed, came, came_came, came_stuck, alike_came, alike_stuck, alike, alike_within}
 use Rattle.formula.specs.declared.points.Points.{Points}
 use Rattle.scanner.specs.declared.token.Token.{Token}
-use Rattle.text.specs.Lines.{wish_letter, room_tests}
-use Rattle.text.specs.Wishes.{one_literal, named, LiteralRead, More, more_literals, LiteralsGood, LiteralsRead, WishesTold, WithWish}
+use Rattle.text.specs.Lines.{wish_letter}
+use Rattle.text.specs.Wishes.{one_literal, named, LiteralRead, More, literal_follows, more_literals, LiteralsGood, LiteralsRead, NoLiteral, WeightRead, WishesTold, wish_tests, WithWish}
 use Rattle.text.specs.declared.lines.Lines.{Lines}
 use Rattle.text.specs.declared.wish.Literals.{Literals}
 use Rattle.text.specs.Laws.Lines.{line_count_lem}
@@ -33,13 +35,13 @@ any_typed = typed 0 0 [] []
 
 -- its name
 module _ (minus : Bool) (s : List ℕ) (at : ℕ) where
-  pub no_literal : {e : Stuck} → NamedRead s (bytes "s") false at (Err e) → LiteralRead (named minus) s at (Err e)
+  pub no_literal : {e : Stuck} → NamedRead s (bytes "s") false Two at (Err e) → LiteralRead (named minus) s at (Err e)
   no_literal h = λ v xs. h (literal v xs minus) refl
 
   -- its number with its sign is the literal, and the walk comes past it
-  pub named_literal : (k : Token) → NamedRead s (bytes "s") false at (Ok k) → LiteralRead (named minus) s at (Ok (record { minus = minus; switch = k.value }, k.at))
+  pub named_literal : (k : Token) → NamedRead s (bytes "s") false Two at (Ok k) → LiteralRead (named minus) s at (Ok (record { minus = minus; switch = k.value }, k.at))
   unfolding number_done
-  named_literal k h = record { few = h.few; came = λ v xs. h.came (literal v xs minus) refl }
+  named_literal k h = record { few = omega (arith, h.few); came = λ v xs. h.came (literal v xs minus) refl refl }
 
 -- with a `!` before its name, or without
 module _ (s : List ℕ) (at : ℕ) where
@@ -64,8 +66,8 @@ module _ (s : List ℕ) (at : ℕ) where
       same v xs = alike s (wish v xs) (named false v xs) at (rw (ne_eqb (look s at) (code "!") e)) refl
 
       go : (r : Result (Literal × ℕ) Stuck) → LiteralRead (named false) s at r → LiteralRead one_literal s at r
-      go (Ok p) h = record { few = h.few; came = λ v xs. let c = h.came v xs in record { ahead = c.ahead; within = c.within; walk = same v xs ∙ c.walk } }
-      go (Err f) h = λ v xs. let c = h v xs in record { within = c.within; walk = same v xs ∙ c.walk }
+      go (Ok p) h = record { few = h.few; came = λ v xs. alike_came (same v xs) (h.came v xs) }
+      go (Err f) h = λ v xs. alike_stuck (same v xs) (h v xs)
 
   -- the name stands past the `!`, if there is one
   pub begun_literal : (n : ℕ) → n ≡ past s at (code "!" ∷ []) → (r : Result (Literal × ℕ) Stuck) → LiteralRead (named (ltb at n)) s n r → LiteralRead one_literal s at r
@@ -82,34 +84,28 @@ module _ (s : List ℕ) (at : ℕ) where
 -- ---- one to three literals
 
 module _ (s : List ℕ) (v : Typed) (xs : Clause) (n : ℕ) where
-  ended_space : length xs < most_literals → look s n ≡ code " " → Came s (ended v xs) n (wish v xs) (n + 1)
+  ended_space : look s n ≡ code " " → Came s (ended v xs) n (another v xs) (n + 1)
   unfolding step move
-  ended_space l e = came s (ended v xs) (wish v xs) n (omega arith) (rw (e, lt-ltb (length xs) most_literals l))
+  ended_space e = came s (ended v xs) (another v xs) n (omega arith) (rw e)
 
-  ended_feed : look s n ≡ code "\n" → Came s (ended v xs) n (wish_line (add_wish v xs)) (n + 1)
-  unfolding step move
-  ended_feed e = came s (ended v xs) (wish_line (add_wish v xs)) n (omega arith) (rw e)
-
-  -- neither a space nor a line feed goes on
-  ended_stuck : n ≤ length s → (ltb (length xs) most_literals && eqb (look s n) (code " ")) ≡ false → look s n ≢ code "\n" → StuckAt s (ended v xs) n n
+  -- past a space, where no weight begins, the walk is at one more literal
+  next_literal : length xs < most_literals → look s n ≡ code " " → look s (n + 1) ≢ code "w" → Came s (ended v xs) n (wish v xs) (n + 1)
   unfolding step move at_end
-  ended_stuck h e f = stops s (ended v xs) n h (go (ltb (length xs) most_literals) (eqb (look s n) (code " ")) refl refl e) refl
-    where
-      go : (p q : Bool) → ltb (length xs) most_literals ≡ p → eqb (look s n) (code " ") ≡ q → (p && q) ≡ false → step (ended v xs) (look s n) ≡ none
-      go true true i j e = clash refl e
-      go false true i j e = rw (j, i)
-      go p false i j e = rw (j, ne_eqb (look s n) (code "\n") f)
+  next_literal l e f =
+      let c : Came s (ended v xs) n (another v xs) (n + 1) = ended_space e in
+      record { ahead = c.ahead; within = c.within; walk = c.walk ∙ alike s (another v xs) (wish v xs) (n + 1) (rw (ne_eqb (look s (n + 1)) (code "w") f, lt-ltb (length xs) most_literals l)) refl }
 
--- the two tests, one by one
-more_is : (s : List ℕ) (w : Literals) → more_literals s w ≡ true → (w.count < most_literals) × (look s w.at ≡ code " ")
-unfolding more_literals
+-- the three tests, one by one
+more_is : (s : List ℕ) (w : Literals) → more_literals s w ≡ true → (w.count < most_literals) × (look s w.at ≡ code " ") × (look s (w.at + 1) ≢ code "w")
+unfolding more_literals literal_follows
 more_is s w e =
-    let (i, j) = both (ltb w.count most_literals) (eqb (look s w.at) (code " ")) e in
-    (ltb-true w.count most_literals i, eqb-true (look s w.at) (code " ") j)
+    let (i, j) = both (ltb w.count most_literals) (literal_follows s w.at) e in
+    let (k, l) = both (eqb (look s w.at) (code " ")) (not (eqb (look s (w.at + 1)) (code "w"))) j in
+    (ltb-true w.count most_literals i, eqb-true (look s w.at) (code " ") k, eqb-false (look s (w.at + 1)) (code "w") (not-true (eqb (look s (w.at + 1)) (code "w")) l))
 
 -- what is asked of one more
 pub literal_asked : (s : List ℕ) (w : Literals) → more_literals s w ≡ true → (w.at + 1 ≤ length s) × (w.count < most_literals)
-literal_asked s w e = let (l, b) = more_is s w e in (omega (arith, stands s w.at (omega arith)), l)
+literal_asked s w e = let (l, b, f) = more_is s w e in (omega (arith, stands s w.at (omega arith)), l)
 
 -- and less is left after it
 pub less_literals : {s : List ℕ} {a : ℕ} (w : Literals) {r : Literals} → More s a (w.at + 1) w r → length s - r.at < length s - w.at
@@ -127,7 +123,7 @@ module _ {s : List ℕ} {a at : ℕ} where
   module _ {w : Literals} (more : more_literals s w ≡ true) (h : LiteralsGood s a at w) where
     -- past the space the walk is at one more literal
     to_literal : (v : Typed) → Came s (wish v []) at (wish v h.clause) (w.at + 1)
-    to_literal v = let (n, b) = more_is s w more in came_came (h.came v) (ended_space s v h.clause w.at (omega (arith, h.codes.count)) b)
+    to_literal v = let (n, b, f) = more_is s w more in came_came (h.came v) (next_literal s v h.clause w.at (omega (arith, h.codes.count)) b f)
 
     pub literals_more : {r : Literals} → More s a (w.at + 1) w r → LiteralsGood s a at r
     literals_more q = record {
@@ -140,24 +136,76 @@ module _ {s : List ℕ} {a at : ℕ} where
     pub literals_stuck : {n : ℕ} → ((v : Typed) (xs : Clause) → StuckAt s (wish v xs) (w.at + 1) n) → (v : Typed) → StuckAt s (wish v []) at n
     literals_stuck k v = came_stuck (to_literal v) (k v h.clause)
 
+-- ---- the weight, and the line feed
+
+module _ (s : List ℕ) (v : Typed) (xs : Clause) (n : ℕ) where
+  abbrev weighed : State
+  weighed = digits (weight v xs)
+
+  -- after a space only a weight may begin
+  another_weight : (ltb (length xs) most_literals && not (eqb (look s (n + 1)) (code "w"))) ≡ false → walk (another v xs) (drop (n + 1) s) ≡ walk (word (bytes "weight ") weighed) (drop (n + 1) s)
+  unfolding step move at_end
+  another_weight e = alike s (another v xs) (word (bytes "weight ") weighed) (n + 1) (go (eqb (look s (n + 1)) (code "w")) (ltb (length xs) most_literals) refl refl e) refl
+    where
+      go : (p q : Bool) → eqb (look s (n + 1)) (code "w") ≡ p → ltb (length xs) most_literals ≡ q → (q && not p) ≡ false → step (another v xs) (look s (n + 1)) ≡ step (word (bytes "weight ") weighed) (look s (n + 1))
+      go true q i j e = rw i
+      go false true i j e = clash refl e
+      go false false i j e = rw (i, j)
+
+  -- so where neither a literal nor a line feed comes, all goes on as to a weight
+  to_weight : NoLiteral s xs n → look s n ≢ code "\n" → walk (ended v xs) (drop n s) ≡ walk (word (bytes " weight ") weighed) (drop n s)
+  unfolding step move at_end literal_follows
+  to_weight e f = go (eqb (look s n) (code " ")) refl
+    where
+      go : (t : Bool) → eqb (look s n) (code " ") ≡ t → walk (ended v xs) (drop n s) ≡ walk (word (bytes " weight ") weighed) (drop n s)
+      go true i =
+          let b : look s n ≡ code " " = eqb-true (look s n) (code " ") i in
+          let c : Came s (word (bytes " weight ") weighed) n (word (bytes "weight ") weighed) (n + 1) = came s (word (bytes " weight ") weighed) (word (bytes "weight ") weighed) n (omega arith) (rw b) in
+          (ended_space s v xs n b).walk ∙ another_weight (rw i at e) ∙ sym c.walk
+      go false i = alike s (ended v xs) (word (bytes " weight ") weighed) n (rw (i, ne_eqb (look s n) (code "\n") f)) refl
+
+module _ {s : List ℕ} {at : ℕ} where
+  pub weight_missing : look s at ≡ code "\n" → WeightRead s at (Ok record { at = at + 1; value = 1 })
+  unfolding step move
+  weight_missing e v xs n = came s (ended v xs) (wish_line (add_wish v (wishOf xs 1))) at (omega arith) (rw e)
+
+  module _ (f : look s at ≢ code "\n") where
+    pub weight_bad : {e : Stuck} → NamedRead s (bytes " weight ") true Four at (Err e) → WeightRead s at (Err e)
+    weight_bad h v xs n = alike_stuck (to_weight s v xs at n f) (h (weight v xs) refl)
+
+    module _ {k : Token} (h : NamedRead s (bytes " weight ") true Four at (Ok k)) where
+      pub weight_within : k.at ≤ length s
+      weight_within = (h.came (weight any_typed []) refl refl).within
+
+      -- the walk comes past the number, and goes on as over the line feed
+      past_weight : (v : Typed) (xs : Clause) → NoLiteral s xs at → Came s (ended v xs) at (word feed (wish_line (add_wish v (wishOf xs k.value)))) k.at
+      unfolding number_done
+      past_weight v xs n = alike_came (to_weight s v xs at n f) (h.came (weight v xs) refl refl)
+
+      pub weight_unfed : {e : Stuck} → WordRead s feed k.at (Err e) → WeightRead s at (Err e)
+      weight_unfed w v xs n = came_stuck (past_weight v xs n) (w (wish_line (add_wish v (wishOf xs k.value))))
+
+      pub weight_read : {n : ℕ} → WordRead s feed k.at (Ok n) → WeightRead s at (Ok record { at = n; value = k.value })
+      weight_read w v xs n = came_came (past_weight v xs n) (w (wish_line (add_wish v (wishOf xs k.value))))
+
 -- ---- the rows of a wish
 
-abbrev wish_line_tests : (a j : ℕ) → Clause → List Test
-wish_line_tests a j w = (5, ltb j most_wishes) ∷ (6, all w (λ x. leb x.size a)) ∷ []
+abbrev wish_line_tests : (a j : ℕ) → Wish → List Test
+wish_line_tests a j w = (5, ltb j most_wishes) ∷ (6, all w.clause (λ x. leb x.size a)) ∷ (14, is_weight (plus w.weight)) ∷ []
 
 module _ (a f : ℕ) where
   -- the tests of a line have the number of the wishes before it, which grows by one with each
-  wish_tests_lem : (j : ℕ) (ws : List Clause) (w : Clause) → wish_tests a f j (ws ++ w ∷ []) ≡ wish_tests a f j ws ++ wish_line_tests a (j + length ws) w ∷ []
-  unfolding wish_tests
+  wish_tests_lem : (j : ℕ) (ws : List Wish) (w : Wish) → scope.wish_tests a f j (ws ++ w ∷ []) ≡ scope.wish_tests a f j ws ++ wish_line_tests a (j + length ws) w ∷ []
+  unfolding scope.wish_tests
   wish_tests_lem j [] w = rw add-zero
   wish_tests_lem j (v ∷ ws) w =
       let n : suc j + length ws ≡ j + suc (length ws) = omega arith in
-      ap (λ l. wish_line_tests a j v ∷ l) (wish_tests_lem (suc j) ws w ∙ ap (λ i. wish_tests a f (suc j) ws ++ wish_line_tests a i w ∷ []) n)
+      ap (λ l. wish_line_tests a j v ∷ l) (wish_tests_lem (suc j) ws w ∙ ap (λ i. scope.wish_tests a f (suc j) ws ++ wish_line_tests a i w ∷ []) n)
 
-  line_rows : (xs : List Formula) (ws : List Clause) (w : Clause) → line_tests (typed a f xs (ws ++ w ∷ [])) ≡ line_tests (typed a f xs ws) ++ wish_line_tests a (length ws) w ∷ []
+  line_rows : (xs : List Formula) (ws : List Wish) (w : Wish) → line_tests (typed a f xs (ws ++ w ∷ [])) ≡ line_tests (typed a f xs ws) ++ wish_line_tests a (length ws) w ∷ []
   unfolding line_tests
   line_rows xs ws w =
-      let e : wish_tests a f 0 (ws ++ w ∷ []) ≡ wish_tests a f 0 ws ++ wish_line_tests a (length ws) w ∷ [] = wish_tests_lem 0 ws w ∙ rw zero-add in
+      let e : scope.wish_tests a f 0 (ws ++ w ∷ []) ≡ scope.wish_tests a f 0 ws ++ wish_line_tests a (length ws) w ∷ [] = wish_tests_lem 0 ws w ∙ rw zero-add in
       rw (e, append_assoc)
 
 -- ---- one more line
@@ -190,40 +238,44 @@ module _ {s : List ℕ} {c : Points} {l : Lines} {u : List ℕ} (h : WishesTold 
       to_ended : Came s start 0 (ended told lits.clause) w.at
       to_ended = came_came to_wish (lits.came told)
 
-      -- its numbers stay small
-      pub wish_asked : (l.rules + l.wishes ≤ most_text) × (w.at ≤ most_text)
-      wish_asked = (omega (arith, h.told.few, h.told.short, h.told.came.within), omega (arith, h.told.short, to_ended.within))
+      pub ended_within : w.at ≤ length s
+      ended_within = to_ended.within
 
-      pub no_feed : more_literals s w ≡ false → look s w.at ≢ code "\n" → StuckAt s start 0 w.at
-      unfolding more_literals
-      no_feed m f =
-          let o : (ltb (length lits.clause) most_literals && eqb (look s w.at) (code " ")) ≡ false = rw lits.codes.count at m in
-          came_stuck to_ended (ended_stuck s told lits.clause w.at to_ended.within o f)
+      -- no literal comes, so its weight and its line feed do
+      module _ (m : more_literals s w ≡ false) where
+        no_literal_left : NoLiteral s lits.clause w.at
+        unfolding more_literals
+        no_literal_left = rw lits.codes.count at m
 
-      -- the literals are one more wish: its walk, its words and its fault come after those told so far
-      pub wish_read : {r : Lines} {v : List ℕ} → look s w.at ≡ code "\n" → WishPut w.codes u v → WithWish l w r → WishesTold s c r v × (l.at < r.at)
-      unfolding sheet_of
-      wish_read e put q =
-          let a : ℕ = c.switches in
-          let f : ℕ = c.faults in
-          let ws : List Clause = h.wishes in
-          let xs : Clause = lits.clause in
-          let word-ahead : l.at < at = (n (wish told [])).ahead in
-          let ahead : at < w.at = (lits.came told).ahead in
-          let row-is : room_tests (ltb l.wishes most_wishes) w.known ≡ wish_line_tests a (length ws) xs = rw (h.told.wishes, lits.codes.known) in (
-            record {
-              rules = h.rules;
-              wishes = ws ++ xs ∷ [];
-              told = record {
-                short = h.told.short;
-                few = omega (arith, h.told.few, q.at, q.gates, q.rules, q.wishes);
-                came = rw q.at (came_came to_ended (ended_feed s told xs w.at e));
-                gates = q.gates ∙ h.told.gates;
-                rules = q.rules ∙ h.told.rules;
-                wishes = omega (arith, q.wishes, h.told.wishes, length_snoc ws xs);
-                kept = put (sheet_of told) xs lits.codes.codes h.told.kept;
-                fault = rw (line_rows a f h.rules ws xs, ← row-is) (q.fault (line_tests told) h.told.fault (omega (arith, line_count_lem a f h.rules ws, h.told.rules, h.told.wishes)));
-              };
-            },
-            omega (arith, q.at),
-          )
+        pub no_weight : {e : Stuck} → WeightRead s w.at (Err e) → StuckAt s start 0 e.0
+        no_weight k = came_stuck to_ended (k told lits.clause no_literal_left)
+
+        -- the literals and the weight are one more wish: its walk, its words and its fault come after those told so far
+        pub wish_read : {k : Token} {r : Lines} {z : List ℕ} → WeightRead s w.at (Ok k) → WishPut (get_or w.codes 0 0 ∷ get_or w.codes 1 0 ∷ get_or w.codes 2 0 ∷ k.value ∷ []) u z → WithWish l w.known k r → WishesTold s c r z × (l.at < r.at)
+        unfolding sheet_of
+        wish_read {k} weigh put q =
+            let a : ℕ = c.switches in
+            let f : ℕ = c.faults in
+            let ws : List Wish = h.wishes in
+            let new : Wish = wishOf lits.clause k.value in
+            let last : Came s (ended told lits.clause) w.at (wish_line (add_wish told new)) k.at = weigh told lits.clause no_literal_left in
+            let word-ahead : l.at < at = (n (wish told [])).ahead in
+            let literals-ahead : at < w.at = (lits.came told).ahead in
+            let ahead : w.at < k.at = last.ahead in
+            let row-is : wish_tests (ltb l.wishes most_wishes) w.known k.value ≡ wish_line_tests a (length ws) new = rw (h.told.wishes, lits.codes.known) in (
+              record {
+                rules = h.rules;
+                wishes = ws ++ new ∷ [];
+                told = record {
+                  short = h.told.short;
+                  few = omega (arith, h.told.few, q.at, q.gates, q.rules, q.wishes);
+                  came = rw q.at (came_came to_ended last);
+                  gates = q.gates ∙ h.told.gates;
+                  rules = q.rules ∙ h.told.rules;
+                  wishes = omega (arith, q.wishes, h.told.wishes, length_snoc ws new);
+                  kept = put (sheet_of told) new (rw lits.codes.codes refl) h.told.kept;
+                  fault = rw (line_rows a f h.rules ws new, ← row-is) (q.fault (line_tests told) h.told.fault (omega (arith, line_count_lem a f h.rules ws, h.told.rules, h.told.wishes)));
+                };
+              },
+              omega (arith, q.at),
+            )

@@ -6,7 +6,7 @@ use Rattle.text.proofs.wish.more_literals.Goals as goal
 
 pub returns-then-w-lt-MOST_LITERALS : goal.returns-then-w-lt-MOST_LITERALS
 unfolding more_literals
-returns-then-w-lt-MOST_LITERALS c = let w = c.args.w in rw (lt-ltb w.count most_literals (omega arith)) c.next_is.ensures
+returns-then-w-lt-MOST_LITERALS c = let w = c.args.w in rw (lt-ltb w.count most_literals (omega arith)) c.literal_follows.ensures
 
 pub returns-else-w-lt-MOST_LITERALS : goal.returns-else-w-lt-MOST_LITERALS
 unfolding more_literals

@@ -1,9 +1,7 @@
--- The word, the literals and the line feed are read in turn: where one is stuck no legal text goes on, and after the last one more wish
--- is told.
-use Rattle.std.proofs.Common.{sym, ◌∙◌, eqb-true}
-use Rattle.std.proofs.lemmas.Bool.{eqb-false}
+-- The word, the literals and the weight with the line feed are read in turn: where one is stuck no legal text goes on, and after the last
+-- one more wish is told.
 use Rattle.scanner.specs.Laws.Tokens.{handed_on}
-use Rattle.text.specs.Laws.Wishes.{no_name, no_literals_lem, wish_asked, no_feed, wish_read}
+use Rattle.text.specs.Laws.Wishes.{no_name, no_literals_lem, ended_within, no_weight, wish_read}
 use Rattle.text.proofs.wish.wish_line.Goals as goal
 
 pub returns-in_err-at : goal.returns-in_err-at
@@ -12,13 +10,15 @@ returns-in_err-at c = rw (handed_on _ c.from_residual.ensures.1) (no_name c.requ
 pub returns-in_err-w : goal.returns-in_err-w
 returns-in_err-w c = rw (handed_on _ c.from_residual-in_err-w.ensures.1) (no_literals_lem c.requires.0 c.requires.1 c.in_ok-at.ensures c.in_err-w.ensures, tt)
 
-pub returns-then-not-next_is : goal.returns-then-not-next_is
-returns-then-not-next_is c =
-    let w = c.in_ok-w.ensures in
-    (no_feed c.requires.0 c.requires.1 c.in_ok-at.ensures w.0 w.1 (eqb-false _ _ (sym c.next_is.ensures ∙ c.if-not-next_is.true)), tt)
+pub weight_at-requires : goal.weight_at-requires
+weight_at-requires c = ended_within c.requires.0 c.requires.1 c.in_ok-at.ensures c.in_ok-w.ensures.0
 
-pub with_wish-requires : goal.with_wish-requires
-with_wish-requires c = wish_asked c.requires.0 c.requires.1 c.in_ok-at.ensures c.in_ok-w.ensures.0
+pub returns-in_err-weight : goal.returns-in_err-weight
+returns-in_err-weight c =
+    let w = c.in_ok-w.ensures in
+    rw (handed_on _ c.from_residual-in_err-weight.ensures.1) (no_weight c.requires.0 c.requires.1 c.in_ok-at.ensures w.0 w.1 c.in_err-weight.ensures, tt)
 
 pub returns : goal.returns
-returns c = wish_read c.requires.0 c.requires.1 c.in_ok-at.ensures c.in_ok-w.ensures.0 (eqb-true _ _ (sym c.next_is.ensures ∙ c.if-not-next_is.false)) c.put_wish.ensures c.with_wish.ensures
+returns c =
+    let w = c.in_ok-w.ensures in
+    wish_read c.requires.0 c.requires.1 c.in_ok-at.ensures w.0 w.1 c.in_ok-weight.ensures c.put_wish.ensures c.with_wish.ensures
