@@ -1,6 +1,6 @@
 // The tests of the lines on which a held sheet would stand, made on its words. The lines stand in order and their unused fields hold 0,
-// so that what is left to test are ranges, limits, and what the fields name.
-ghost use Rattle.std.specs.Prelude.{◌≡◌, ℕ, ◌≤◌};
+// so that what is left to test are ranges, limits, what the fields name, and weights.
+ghost use Rattle.std.specs.Prelude.{◌≡◌, ◌≤◌};
 ghost use Rattle.scope.specs.Causes.{literals};
 ghost use Rattle.words.specs.Entries.{gate_from};
 ghost use Rattle.words.specs.Refusals.{Tested};
@@ -14,10 +14,10 @@ use field::Number;
 use words::Words;
 use words::counts::{Counts, counts_of};
 use words::gate::{Gate, gate_words};
-use words::limit::{MOST_GATES, MOST_RULES, MOST_WISHES};
+use words::limit::{MOST_GATES, MOST_LITERALS, MOST_RULES, MOST_WISHES};
 use words::refusal::{Refusal, require};
 use words::rule::rule_at;
-use words::wish::{Codes, wish_at};
+use words::wish::{is_weight, wish_at};
 
 // The words may be any that C lends. What fields may hold is asked of `causes`, as the reader asks it.
 
@@ -35,7 +35,7 @@ fn names(gate: Gate, m: usize) -> bool
 }
 
 // Whether literals of a switches come first and zeros fill up.
-fn is_clause(codes: Codes, a: u32) -> bool
+fn is_clause(codes: [u32; MOST_LITERALS], a: u32) -> bool
     ensures { result ≡ literals a (literals_of codes) }
 {
     are_literals(&codes.map(number), a)
@@ -79,13 +79,15 @@ fn wish_fault(words: &Words, i: usize) -> Result<(), Refusal>
 {
     require(i < MOST_WISHES as usize, Refusal::Limit)?;
     let c = counts_of(words);
-    require(is_clause(wish_at(words, i), c.switches), Refusal::Fields)
+    let [x, y, z, weight] = wish_at(words, i);
+    require(is_clause([x, y, z], c.switches), Refusal::Fields)?;
+    require(is_weight(weight), Refusal::Weight)
 }
 
 // The tests of line k, counted from 0.
 pub fn fault_at(words: &Words, k: usize) -> Result<(), Refusal>
     requires { k ≤ before_end words.now }
-    ensures { (n : ℕ) → 3 ≤ n → Tested (line_tests n words.now k) result }
+    ensures { Tested (line_tests words.now k) result }
 {
     match entry_on(words, k) {
         Entry::Head => head_fault(words),

@@ -1,10 +1,10 @@
 // The lines of a valid held sheet, one by one.
 ghost use Rattle.std.specs.Prelude.{[], ◌∷◌, ◌≡◌, ◌≤◌};
-ghost use Rattle.scope.specs.Sheet.{plus, line, filled, gate_line, wish_line, Valid};
+ghost use Rattle.scope.specs.Sheet.{plus, line, field_count, filled, gate_line, wish_line, Valid};
 ghost use Rattle.scope.specs.Words.{literal_from, held};
 ghost use Rattle.field.specs.Columns.{number_from};
-ghost use Rattle.line.specs.Lines.{letter_from, line_from};
-ghost use Rattle.words.specs.Entries.{gate_from, clause_from};
+ghost use Rattle.line.specs.Lines.{letter_from, layout_of, line_from};
+ghost use Rattle.words.specs.Entries.{gate_from, wish_of_words};
 ghost use Rattle.writer.specs.Entries.{before_end};
 ghost use Rattle.writer.specs.Lines.{line_at};
 
@@ -14,12 +14,13 @@ use line::{Letter, Line};
 use words::Words;
 use words::counts::counts_of;
 use words::gate::Gate;
+use words::limit::MOST_LITERALS;
 use words::literal::Literal;
 use words::rule::rule_at;
 use words::sheet::valid_gate;
-use words::wish::{Codes, wish_at};
+use words::wish::{WishWords, wish_at};
 
-// That N is 3 or more is asked by each of these. It is a fact of `Lines`, but they look at no words, and so are no methods of it.
+// What N may be is asked by each of these. It is a fact of `Lines`, but they look at no words, and so are no methods of it.
 
 // The line of these numbers, and zeros behind them. They are put one by one: copied as a part of an array they pass through memory, and
 // writing a full sheet misses its bar.
@@ -36,8 +37,8 @@ fn line_of<const N: usize>(letter: Letter, x: Number, y: Number, z: Number) -> L
 
 // The line of two numbers that are not below 0.
 fn plain_line<const N: usize>(letter: Letter, x: u32, y: u32) -> Line<N>
-    requires { 3 ≤ N }
-    ensures { line_from result ≡ line (letter_from letter) (filled N (plus x ∷ plus y ∷ [])) }
+    requires { (3 ≤ N) × (N ≤ 4) }
+    ensures { line_from result ≡ line (letter_from letter) (filled (field_count (layout_of N)) (plus x ∷ plus y ∷ [])) }
 {
     line_of(letter, Number::from(x), Number::from(y), Number::from(0))
 }
@@ -45,8 +46,8 @@ fn plain_line<const N: usize>(letter: Letter, x: u32, y: u32) -> Line<N>
 // An entry as its line: by functions, since a `From` may ask for nothing, and these types are of other crates.
 
 fn gate_line<const N: usize>(gate: Gate) -> Line<N>
-    requires { 3 ≤ N }
-    ensures { line_from result ≡ gate_line N (gate_from gate) }
+    requires { (3 ≤ N) × (N ≤ 4) }
+    ensures { line_from result ≡ gate_line (layout_of N) (gate_from gate) }
 {
     match gate {
         Gate::Not(p) => plain_line(Letter::Not, p, 0),
@@ -62,20 +63,24 @@ pub(crate) fn number(code: u32) -> Number
     Number::from(Literal::from(code))
 }
 
-// A word 0 stands for no literal, and its number is 0.
-fn wish_line<const N: usize>(codes: Codes) -> Line<N>
-    requires { 3 ≤ N }
-    ensures { line_from result ≡ wish_line N (clause_from codes) }
+// A word 0 stands for no literal, and its number is 0. The weight has a field where there are four.
+fn wish_line<const N: usize>(wish: WishWords) -> Line<N>
+    requires { (3 ≤ N) × (N ≤ 4) }
+    ensures { line_from result ≡ wish_line (layout_of N) (wish_of_words wish) }
 {
-    let [x, y, z] = codes;
-    line_of(Letter::Wish, number(x), number(y), number(z))
+    let [x, y, z, weight] = wish;
+    let mut line = line_of(Letter::Wish, number(x), number(y), number(z));
+    if MOST_LITERALS < N {
+        line.numbers[MOST_LITERALS] = Number::from(weight);
+    }
+    line
 }
 
 // The sheet that these words hold, as lines of N fields.
 #[derive(Clone, Copy)]
 pub struct Lines<'a, const N: usize> {
     pub words: &'a Words,
-    ghost form: { (3 ≤ N) × (N ≤ 4) },
+    ghost fields: { (3 ≤ N) × (N ≤ 4) },
 }
 
 impl<const N: usize> Lines<'_, N> {
@@ -83,7 +88,7 @@ impl<const N: usize> Lines<'_, N> {
     pub fn at(self, k: usize) -> Line<N>
         requires valid { Valid (held self.words.now) }
         requires within { k ≤ before_end self.words.now }
-        ensures { line_from result ≡ line_at N self.entry.words.now k }
+        ensures { line_from result ≡ line_at (layout_of N) self.entry.words.now k }
     {
         match entry_on(self.words, k) {
             Entry::Head => {

@@ -11,8 +11,9 @@ use Rattle.scope.specs.Writing.{table_tests, TablesRead, at_fault}
 use Rattle.scope.proofs.Laws.Alls.{all_snoc}
 use Rattle.scope.proofs.Laws.Writing.{wishes_held, passes_valid}
 use Rattle.words.specs.declared.refusal.Refusal.{Refusal}
-use Rattle.words.specs.declared.refusal.Refusal.TheVariants.{Limit, Fields, Range}
+use Rattle.words.specs.declared.refusal.Refusal.TheVariants.{Order, Limit, Range}
 use Rattle.words.specs.Refusals.{number_of, Tested}
+use Rattle.words.specs.Laws.Tests as tests
 use Rattle.writer.specs.Entries.{before_end}
 use Rattle.writer.specs.Tested.{line_tests}
 use Rattle.writer.specs.Laws.Tests.{length_tests}
@@ -23,32 +24,39 @@ use Rattle.writer.specs.Laws.Tests.{length_tests}
 abbrev test : Bool → Refusal → Result Unit Refusal
 test met r = cond met (Ok tt) (Err r)
 
--- whether the limit is kept, and then what the fields are
-module _ (below : Bool) where
-  pub over_limit : {fields : Bool} {e : Refusal} → test below Limit ≡ Err e → Tested ((3, true) ∷ (5, below) ∷ (6, fields) ∷ []) (Err e)
-  over_limit {fields} {e} h = go below h
-    where
-      go : (b : Bool) → test b Limit ≡ Err e → Tested ((3, true) ∷ (5, b) ∷ (6, fields) ∷ []) (Err e)
-      go true h = cc
-      go false h = let l : Limit ≡ e = cc in rw (← l) (later here)
-
-  pub by_fields : (ok : Bool) {u : Unit {0}} → test below Limit ≡ Ok u → Tested ((3, true) ∷ (5, below) ∷ (6, ok) ∷ []) (test ok Fields)
-  by_fields ok {u} h = go below ok h
-    where
-      go : (b ok : Bool) → test b Limit ≡ Ok u → Tested ((3, true) ∷ (5, b) ∷ (6, ok) ∷ []) (test ok Fields)
-      go true true h = (refl, (refl, (refl, tt)))
-      go true false h = later (later here)
-      go false ok h = cc
-
--- so of an entry: beyond the limit nothing else is tested, and below it the fields are
-module _ (below fields : Bool) (r : Result Unit Refusal) {x : Result Unit Refusal} (made : x ≡ test below Limit) where
-  pub entry_over : {e : Refusal} → x ≡ Err e → IsErrAnd r (λ d. d ≡ e) → Tested ((3, true) ∷ (5, below) ∷ (6, fields) ∷ []) r
-  entry_over h d =
+-- the test that spares x is the next: r is what it and those after it tell
+module _ (met : Bool) (x : Refusal) {made : Result Unit Refusal} (is_made : made ≡ test met x) (ts : List Test) (r : Result Unit Refusal) where
+  pub not_met : {e : Refusal} → made ≡ Err e → IsErrAnd r (λ d. d ≡ e) → Tested ((number_of x, met) ∷ ts) r
+  not_met {e} h d =
       let p = err_from_is_err_and r d in
-      rw (p.1, p.2) (over_limit below (sym made ∙ h))
+      rw (p.1, p.2) (go met (sym is_made ∙ h))
+    where
+      go : (b : Bool) → test b x ≡ Err e → Tested ((number_of x, b) ∷ ts) (Err e)
+      go true h = cc
+      go false h = let l : x ≡ e = cc in rw (← l) here
 
-  pub entry_tested : {ok : Bool} {u : Unit {0}} → x ≡ Ok u → r ≡ test ok Fields → ok ≡ fields → Tested ((3, true) ∷ (5, below) ∷ (6, fields) ∷ []) r
-  entry_tested {ok} h e f = rw (e, ← f) (by_fields below ok (sym made ∙ h))
+  pub is_met : {u : Unit {0}} → made ≡ Ok u → Tested ts r → Tested ((number_of x, met) ∷ ts) r
+  is_met {u} h f = go met (sym is_made ∙ h) r f
+    where
+      go : (b : Bool) → test b x ≡ Ok u → (r : Result Unit Refusal) → Tested ts r → Tested ((number_of x, b) ∷ ts) r
+      go true h (Ok v) f = (refl, f)
+      go true h (Err e) f = later f
+      go false h r f = cc
+
+-- so of an entry: beyond the limit nothing else is tested, and within it the others are
+module _ (within : Bool) (others : List Test) (r : Result Unit Refusal) {made : Result Unit Refusal} (is_made : made ≡ test within Limit) where
+  in_place : Tested ((5, within) ∷ others) r → Tested ((3, true) ∷ (5, within) ∷ others) r
+  in_place f = is_met true Order refl ((5, within) ∷ others) r refl f
+
+  pub entry_over : {e : Refusal} → made ≡ Err e → IsErrAnd r (λ d. d ≡ e) → Tested ((3, true) ∷ (5, within) ∷ others) r
+  entry_over h d = in_place (not_met within Limit is_made others r h d)
+
+  pub entry_within : {u : Unit {0}} → made ≡ Ok u → Tested others r → Tested ((3, true) ∷ (5, within) ∷ others) r
+  entry_within h f = in_place (is_met within Limit is_made others r h f)
+
+-- the last test
+pub last : (x : Refusal) (met ok : Bool) (r : Result Unit Refusal) → r ≡ test ok x → ok ≡ met → Tested ((number_of x, met) ∷ []) r
+last x met ok r e f = tests.test [] ok met (Ok tt) r x e f tt
 
 pub by_range : (ok : Bool) → Tested ((3, true) ∷ (4, ok) ∷ (6, true) ∷ []) (test ok Range)
 by_range true = (refl, (refl, (refl, tt)))
@@ -67,20 +75,18 @@ first_line_lem (suc k) (rs ∷ rss) (m, ms) h f = texts.later m (first_line_lem 
 
 -- the first k lines meet theirs
 abbrev pub Passed : (u : List ℕ) → ℕ → Type 0
-Passed u k = (n : ℕ) → 3 ≤ n → All Met (take k (table_tests n (held u)))
+Passed u k = All Met (take k (table_tests (held u)))
 
 module _ (u : List ℕ) where
   module _ (k : ℕ) (p : Passed u k) where
     pub all_passed : before_end u ≤ k → Valid (held u)
-    all_passed h =
-        let wide : 3 ≤ 3 = omega arith in
-        passes_valid 3 wide (held u) (wishes_held u) (rw (take_all k (table_tests 3 (held u)) (omega (arith, length_tests 3 wide u))) at (p 3 wide))
+    all_passed h = passes_valid (held u) (wishes_held u) (rw (take_all k (table_tests (held u)) (omega (arith, length_tests u))) at p)
 
-    module _ (h : k < before_end u) (r : Result Unit Refusal) (f : (n : ℕ) → 3 ≤ n → Tested (line_tests n u k) r) where
-      pub fault_found : {e : Refusal} → r ≡ Err e → (n : ℕ) → 3 ≤ n → TablesRead n (held u) (refused (number_of e) (k + 1) 0)
-      fault_found e n wide = rw add-one (at_fault (first_line_lem k (table_tests n (held u)) (p n wide) (omega (arith, length_tests n wide u)) (rw e at (f n wide))))
+    module _ (h : k < before_end u) (r : Result Unit Refusal) (f : Tested (line_tests u k) r) where
+      pub fault_found : {e : Refusal} → r ≡ Err e → TablesRead (held u) (refused (number_of e) (k + 1) 0)
+      fault_found e = rw add-one (at_fault (first_line_lem k (table_tests (held u)) p (omega (arith, length_tests u)) (rw e at f)))
 
       pub next_passed : r ≡ Ok tt → Passed u (k + 1)
-      next_passed e n wide =
-          let i : k < length (table_tests n (held u)) = omega (arith, length_tests n wide u) in
-          rw (add-one, take-suc (table_tests n (held u)) k []) (all_snoc Met (take k (table_tests n (held u))) (line_tests n u k) (p n wide) (rw e at (f n wide)))
+      next_passed e =
+          let i : k < length (table_tests (held u)) = omega (arith, length_tests u) in
+          rw (add-one, take-suc (table_tests (held u)) k []) (all_snoc Met (take k (table_tests (held u))) (line_tests u k) p (rw e at f))

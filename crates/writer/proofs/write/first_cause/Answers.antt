@@ -19,4 +19,4 @@ loop-k-preserved c =
     (c.loop-k.invariant.0, next_passed c.args.words.now _ c.loop-k.invariant.1 (omega arith) c.fault_at.result c.fault_at.ensures e)
 
 pub returns : goal.returns
-returns c = λ n wide. all_passed c.args.words.now _ c.loop-k.invariant.1 (omega arith)
+returns c = all_passed c.args.words.now _ c.loop-k.invariant.1 (omega arith)
