@@ -1,7 +1,6 @@
 // Switches as a plan sets them: which are on, and which wishes they keep.
 ghost use Rattle.std.specs.Prelude.{◌≡◌, ◌≤◌, ◌<◌, false, get_or};
 ghost use Rattle.scope.specs.Sheet.{most_switches, All, Among, Valid};
-ghost use Rattle.scope.specs.Sheet as scope;
 ghost use Rattle.scope.specs.Meaning.{bits, nth, keeps};
 ghost use Rattle.words.specs.Entries.{literals_there, clause_there};
 
@@ -9,7 +8,7 @@ use crate::planned::Planned;
 use crate::point::digit;
 use words::Plan;
 use words::literal::Literal;
-use words::wish::Wish;
+use words::wish::Clause;
 
 // How many there are, and the plan.
 #[derive(Clone, Copy)]
@@ -36,12 +35,12 @@ impl Switches {
         literal.is_some_and(|l| self.is_on(l.switch) != l.minus)
     }
 
-    // Whether they keep a wish.
-    pub fn keeps(self, wish: Wish) -> bool
-        requires { scope.Wish self.count (clause_there wish) }
-        ensures { result ≡ keeps (nth (bits self.count self.plan.0)) (clause_there wish) }
+    // Whether they keep a wish of these literals.
+    pub fn keeps(self, clause: Clause) -> bool
+        requires { All (λ l. Among self.count l.size) (clause_there clause) }
+        ensures { result ≡ keeps (nth (bits self.count self.plan.0)) (clause_there clause) }
     {
-        wish.iter().any(|literal| self.makes(*literal))
+        clause.iter().any(|literal| self.makes(*literal))
     }
 }
 

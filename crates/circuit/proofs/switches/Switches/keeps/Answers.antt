@@ -12,12 +12,12 @@ use Rattle.circuit.proofs.switches.Switches.keeps.Goals as goal
 
 pub any-requires-clause-callable : goal.any-requires-clause-callable
 any-requires-clause-callable c =
-    serves_from_places (YieldsList-from_slice c.args.wish c.iter.ensures.rest) (λ x q k. search (rules, tests)) (λ x k l e.
-    let n : Named c.args.self.count (literals_there x.now) = subst (λ m. Named c.args.self.count (literals_there m)) (sym e) (all_at (λ m. Named c.args.self.count (literals_there m)) c.args.wish x.now k (named_each c.args.self.count c.args.wish c.requires.1) l) in
+    serves_from_places (YieldsList-from_slice c.args.clause c.iter.ensures.rest) (λ x q k. search (rules, tests)) (λ x k l e.
+    let n : Named c.args.self.count (literals_there x.now) = subst (λ m. Named c.args.self.count (literals_there m)) (sym e) (all_at (λ m. Named c.args.self.count (literals_there m)) c.args.clause x.now k (named_each c.args.self.count c.args.clause c.requires) l) in
     search (rules, n))
 
 pub returns : goal.returns
 returns c =
     let v = nth (bits c.args.self.count c.args.self.plan.0) in
-    any_from_yields_List (λ n. keeps v (literals_there n)) _ _ c.any.result c.any.ensures.ran (YieldsList-from_slice c.args.wish c.iter.ensures.rest) (λ x b q k. search (rules, tests))
-    ∙ keeps_each v c.args.wish
+    any_from_yields_List (λ n. keeps v (literals_there n)) _ _ c.any.result c.any.ensures.ran (YieldsList-from_slice c.args.clause c.iter.ensures.rest) (λ x b q k. search (rules, tests))
+    ∙ keeps_each v c.args.clause
