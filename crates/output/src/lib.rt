@@ -3,10 +3,9 @@
 #![tactic(auto)]
 
 ghost use Rattle.std.specs.Prelude.{◌≡◌, ◌*◌, ◌≤◌, length, ltb, Err, is_none, unwrap_or};
-ghost use Rattle.scope.specs.Sheet.{field_count};
-ghost use Rattle.scope.specs.Causes.{accepted, most_bytes};
+ghost use Rattle.scope.specs.Causes.{accepted};
 ghost use Rattle.scope.specs.Source.{Source};
-ghost use Rattle.scope.specs.Program.{output_rows, most_output, listing_result, listing_of, converted_of};
+ghost use Rattle.scope.specs.Program.{output_rows, most_output, most_sheet, listing_result, listing_of, converted_of};
 ghost use Rattle.words.specs.Told.{told};
 ghost use Rattle.jobs.specs.Figures.{result_of};
 ghost use Rattle.listing.specs.Rows.{row_size, Wrote};
@@ -104,7 +103,7 @@ pub fn put_output(read: &Result<Sheet, Cause>, out: &mut [u8]) -> Option<usize>
 pub fn put_sheet(read: &Result<Sheet, Cause>, out: &mut [u8]) -> Option<usize>
     requires { Source (told read.now) }
     ensures sheet { listing_result (unwrap_or result 0) out.new ≡ converted_of (told read.now) out.old }
-    ensures short { is_none result ≡ ltb (length out.old) (most_bytes field_count) }
+    ensures short { is_none result ≡ ltb (length out.old) most_sheet }
 {
     if out.len() < MOST_SHEET {
         return None;

@@ -3,7 +3,7 @@
 // written is tested. An input that was not read to its end has no answer.
 #![tactic(auto)]
 
-ghost use Rattle.scope.specs.Sheet.{field_count};
+ghost use Rattle.scope.specs.Sheet.{weighted};
 ghost use Rattle.scope.specs.Sheets.{SheetRead};
 ghost use Rattle.scope.specs.Program.{listing_result, IsListing};
 
@@ -15,7 +15,7 @@ const INPUT: usize = MOST_SHEET + 1;
 // The buffer is as long as the longest listing, so that there always is one. The programs are this line each, of the form and the output
 // that they name: no plainer as one function with a name for either.
 fn print(sheet: &[u8], out: &mut [u8]) -> usize
-    ensures { IsListing (SheetRead field_count sheet.now) out.old (listing_result result out.new) }
+    ensures { IsListing (SheetRead weighted sheet.now) out.old (listing_result result out.new) }
 {
     print_listing::<Fixed>(sheet, out).unwrap_or(0)
 }

@@ -1,6 +1,6 @@
 // The forms that a sheet comes in.
 ghost use Rattle.std.specs.Prelude.{ℕ, List};
-ghost use Rattle.scope.specs.Sheet.{field_count};
+ghost use Rattle.scope.specs.Sheet.{weighted};
 ghost use Rattle.scope.specs.Causes.{Read};
 ghost use Rattle.scope.specs.Sheets.{SheetRead};
 ghost use Rattle.scope.specs.Texts.{TextRead};
@@ -28,7 +28,7 @@ pub trait Form {
 pub struct Fixed;
 
 impl Form for Fixed {
-    ghost Reading = { SheetRead field_count };
+    ghost Reading = { SheetRead weighted };
 
     ghost source = { λ s r. form_source (scope.Form.sheet s) r };
 

@@ -1,10 +1,8 @@
 // The jobs, over bytes of any form: each reads them, and hands on the sheet or the cause to turn it down.
 ghost use Rattle.std.specs.Prelude.{◌≡◌, length, ltb, is_none, unwrap_or};
-ghost use Rattle.scope.specs.Sheet.{field_count};
-ghost use Rattle.scope.specs.Causes.{most_bytes};
 ghost use Rattle.scope.specs.Jobs.{IsAnswer, IsShortRun, IsRating};
 ghost use Rattle.scope.specs.Demands.{IsPair};
-ghost use Rattle.scope.specs.Program.{listing_result, most_output, IsListing, IsConverted};
+ghost use Rattle.scope.specs.Program.{listing_result, most_output, most_sheet, IsListing, IsConverted};
 ghost use Rattle.scope.specs.Filling.{IsRead};
 ghost use Rattle.jobs.specs.Figures.{result_of, rating_of, answer_from};
 ghost use Rattle.words.specs.Told.{told};
@@ -79,7 +77,7 @@ pub fn print_listing<F: Form>(s: &[u8], out: &mut [u8]) -> Option<usize>
 // than the longest sheet is left as it was, and there is none.
 pub fn print_sheet<F: Form>(s: &[u8], out: &mut [u8]) -> Option<usize>
     ensures sheet { IsConverted (F.Reading s.now) out.old (listing_result (unwrap_or result 0) out.new) }
-    ensures short { is_none result ≡ ltb (length out.old) (most_bytes field_count) }
+    ensures short { is_none result ≡ ltb (length out.old) most_sheet }
 {
     put_sheet(&sheet_of::<F>(s), out)
 }

@@ -1,7 +1,7 @@
 // The calls for C and Rust. Each returns the number, or the length of a listing, and writes every other figure through a pointer, as C
 // has no `Result` and no `Option`; and each form has calls of its own, as C has no parameters for types.
 ghost use Rattle.std.specs.Prelude.{[], ◌∷◌, ◌≡◌, IfOk, IfErr};
-ghost use Rattle.scope.specs.Sheet.{field_count};
+ghost use Rattle.scope.specs.Sheet.{weighted};
 ghost use Rattle.scope.specs.Sheets.{SheetRead};
 ghost use Rattle.scope.specs.Texts.{TextRead};
 ghost use Rattle.scope.specs.Source.{Gives};
@@ -105,7 +105,7 @@ pub extern "C" fn comzsered_answer(
     cost: &mut u32,
     length: &mut usize,
 ) -> u32
-    ensures { IsAnswer (SheetRead field_count sheet.now) list.old (answered (figures result place.new column.new plan.new cost.new length.new) list.new) }
+    ensures { IsAnswer (SheetRead weighted sheet.now) list.old (answered (figures result place.new column.new plan.new cost.new length.new) list.new) }
 {
     hand_out(
         planner::answer::<Fixed>(sheet, list),
@@ -127,7 +127,7 @@ pub extern "C" fn comzsered_short_run(
     cost: &mut u32,
     length: &mut usize,
 ) -> u32
-    ensures { IsShortRun (SheetRead field_count sheet.now) patterns.now (figures result place.new column.new plan.new cost.new length.new) }
+    ensures { IsShortRun (SheetRead weighted sheet.now) patterns.now (figures result place.new column.new plan.new cost.new length.new) }
 {
     hand_out(
         planner::short_run::<Fixed>(sheet, patterns),
@@ -150,7 +150,7 @@ pub extern "C" fn comzsered_rating(
     pattern: &mut u32,
     length: &mut usize,
 ) -> u32
-    ensures { Gives (SheetRead field_count sheet.now) (λ q. rating_figures (jobs.rating_of q plan)) (result ∷ place.new ∷ column.new ∷ cost.new ∷ sound.new ∷ pattern.new ∷ length.new ∷ []) }
+    ensures { Gives (SheetRead weighted sheet.now) (λ q. rating_figures (jobs.rating_of q plan)) (result ∷ place.new ∷ column.new ∷ cost.new ∷ sound.new ∷ pattern.new ∷ length.new ∷ []) }
 {
     hand_out_rating(
         planner::rate::<Fixed>(sheet, Plan(plan)),
@@ -165,7 +165,7 @@ pub extern "C" fn comzsered_rating(
 
 #[unsafe(no_mangle)]
 pub extern "C" fn comzsered_listing(sheet: &[u8], out: &mut [u8]) -> usize
-    ensures { IsListing (SheetRead field_count sheet.now) out.old (listing_result result out.new) }
+    ensures { IsListing (SheetRead weighted sheet.now) out.old (listing_result result out.new) }
 {
     planner::print_listing::<Fixed>(sheet, out).unwrap_or(0)
 }
@@ -256,7 +256,7 @@ pub extern "C" fn comzsered_read(
     place: &mut usize,
     column: &mut usize,
 ) -> u32
-    ensures { IsRead (SheetRead field_count sheet.now) tables.old (read_result result place.new column.new tables.new) }
+    ensures { IsRead (SheetRead weighted sheet.now) tables.old (read_result result place.new column.new tables.new) }
 {
     hand_cause(planner::read::<Fixed>(sheet, tables), place, column)
 }
@@ -281,7 +281,7 @@ pub extern "C" fn comzsered_write(
     column: &mut usize,
     length: &mut usize,
 ) -> u32
-    ensures { IsWritten field_count tables.now out.old (written result place.new column.new length.new out.new) }
+    ensures { IsWritten tables.now out.old (written result place.new column.new length.new out.new) }
 {
     match write(tables, out) {
         Ok(n) => {

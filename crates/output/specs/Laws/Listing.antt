@@ -13,7 +13,7 @@ use Rattle.scope.specs.Program.{Row, row, each, pattern_row, plan_rows, found_ro
 use Rattle.scope.proofs.Laws.Outputs.{output_fits, listed_small}
 use Rattle.words.specs.declared.refusal.Cause.{Cause}
 use Rattle.words.specs.declared.refusal.Refusal.{Refusal}
-use Rattle.words.specs.declared.refusal.Refusal.TheVariants.{Length, Malformed, Order, Range, Limit, Fields, Count, NoPlan, NoRoom, HighPlan, HighPattern, Illegal, TooShort}
+use Rattle.words.specs.declared.refusal.Refusal.TheVariants.{Length, Malformed, Order, Range, Limit, Fields, Count, NoPlan, NoRoom, HighPlan, HighPattern, Illegal, TooShort, Weight}
 use Rattle.words.specs.Refusals.{number_of}
 use Rattle.words.specs.Told.{told}
 use Rattle.circuit.specs.declared.planned.Planned.{Planned}
@@ -112,6 +112,7 @@ refused_number HighPlan e = absurd (omega arith)
 refused_number HighPattern e = absurd (omega arith)
 refused_number Illegal e = absurd (omega arith)
 refused_number TooShort e = absurd (omega arith)
+refused_number Weight e = absurd (omega arith)
 
 pub some_found : (t : Sheet) {r : jobs.Result} {p c n : ℕ} → r ≡ found p c n → plan_rows t p ≡ found_rows (accepted t) r
 some_found t e = rw e refl
