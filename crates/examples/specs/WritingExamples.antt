@@ -4,7 +4,7 @@ use Prim.Native.Char.{code}
 use Prim.Native.String.{String}
 use Rattle.std.proofs.Common.{arith, sym, ap, ap₂, ◌∙◌, get_or-set_other}
 use Rattle.scope.specs.Text.{lines}
-use Rattle.scope.specs.Sheet.{Gate, Sheet, sheet, decimal, field, fields_bytes, text, body, field_count, most_gates, most_rules, most_wishes, All, Ordered, Valid}
+use Rattle.scope.specs.Sheet.{Gate, Sheet, sheet, decimal, field, fields_bytes, text, body, weighted, most_gates, most_rules, most_wishes, All, Ordered, Valid}
 use Rattle.scope.specs.Causes.{zeros, literals, clause, tests, make, refused}
 use Rattle.scope.specs.Sheets.{SheetRead}
 use Rattle.scope.specs.Reading.{field_of, fields_of, letter_of, line_of, column_of, line_at, column_at, tests_at, read_from, read}
@@ -19,7 +19,7 @@ use Rattle.scope.proofs.Laws.Alls.{all_imply}
 
 -- three gates, a rule and two wishes: of switch 1 off or 2 on, and of nothing
 abbrev pub sample : List String
-sample = "H    2    1    0" ∷ "N    1    0    0" ∷ "A    2    3    0" ∷ "O    4    5    0" ∷ "R    6    0    0" ∷ "W   -1    2    0" ∷ "W    0    0    0" ∷ "Z    7    0    0" ∷ []
+sample = "H    2    1    0    0" ∷ "N    1    0    0    0" ∷ "A    2    3    0    0" ∷ "O    4    5    0    0" ∷ "R    6    0    0    0" ∷ "W   -1    2    0    1" ∷ "W    0    0    0   12" ∷ "Z    7    0    0    0" ∷ []
 
 -- ---- words laid out: the counts, and the first words of each room, which x fills up
 
@@ -30,14 +30,19 @@ abbrev pub laid_out : (x a f gates rules wishes : ℕ) → (gate_words rule_word
 laid_out x a f gates rules wishes gs rs ws = a ∷ f ∷ gates ∷ rules ∷ wishes ∷ filled_up x (most_gates * gate_size) gs ++ (filled_up x most_rules rs ++ filled_up x (most_wishes * wish_size) ws)
 
 abbrev pub sample_words : (x : ℕ) → List ℕ
-sample_words x = laid_out x 2 1 3 1 2 (code "N" ∷ 1 ∷ 0 ∷ code "A" ∷ 2 ∷ 3 ∷ code "O" ∷ 4 ∷ 5 ∷ []) (6 ∷ []) (3 ∷ 4 ∷ 0 ∷ 0 ∷ 0 ∷ 0 ∷ [])
+sample_words x = laid_out x 2 1 3 1 2 (code "N" ∷ 1 ∷ 0 ∷ code "A" ∷ 2 ∷ 3 ∷ code "O" ∷ 4 ∷ 5 ∷ []) (6 ∷ []) (3 ∷ 4 ∷ 0 ∷ 1 ∷ 0 ∷ 0 ∷ 0 ∷ 12 ∷ [])
 
 -- one switch, and one gate or wish
 abbrev pub gate : (kind left right : ℕ) → List ℕ
 gate k p q = laid_out 0 1 0 1 0 0 (k ∷ p ∷ q ∷ []) [] []
 
-abbrev pub wish : (first second third : ℕ) → List ℕ
-wish x y z = laid_out 0 1 0 0 0 1 [] [] (x ∷ y ∷ z ∷ [])
+abbrev pub wish : (first second third weight : ℕ) → List ℕ
+wish x y z n = laid_out 0 1 0 0 0 1 [] [] (x ∷ y ∷ z ∷ n ∷ [])
+
+-- the words of k wishes of nothing, each of weight 1
+abbrev pub ones : ℕ → List ℕ
+ones zero = []
+ones (suc k) = 0 ∷ 0 ∷ 0 ∷ 1 ∷ ones k
 
 -- ---- what is written, where, and what is returned
 
@@ -50,36 +55,39 @@ turned c place = written c place 0 0 []
 abbrev pub examples : List Example
 examples =
     -- bytes after the sheet keep their content
-    (sample_words 0, replicate 140 7, written 0 0 0 136 (lines sample ++ replicate 4 7))
+    (sample_words 0, replicate 180 7, written 0 0 0 176 (lines sample ++ replicate 4 7))
     -- words beyond the counts are ignored
-    ∷ (sample_words 9, replicate 136 7, written 0 0 0 136 (lines sample))
+    ∷ (sample_words 9, replicate 176 7, written 0 0 0 176 (lines sample))
     -- one byte short
-    ∷ (sample_words 0, replicate 135 7, written 13 0 0 0 (replicate 135 7))
+    ∷ (sample_words 0, replicate 175 7, written 13 0 0 0 (replicate 175 7))
     -- too many switches or faults, also where there is no room
     ∷ (laid_out 0 21 0 0 0 0 [] [] [], [], turned 4 1)
     ∷ (laid_out 0 20 17 1 0 0 [] [] [], [], turned 4 1)
     -- the first line at fault comes before gate 401; rule 65 and wish 65
     ∷ (laid_out 0 1 0 405 0 0 (code "N" ∷ 1 ∷ 0 ∷ code "N" ∷ 1 ∷ 0 ∷ code "N" ∷ 0 ∷ 0 ∷ []) [] [], [], turned 6 4)
     ∷ (laid_out 0 1 0 0 65 0 [] (replicate 64 1) [], [], turned 5 66)
-    ∷ (laid_out 0 1 0 0 0 65 [] [] [], [], turned 5 66)
+    ∷ (laid_out 0 1 0 0 0 65 [] [] (ones 64), [], turned 5 66)
     -- a gate of no kind, N with a second point, the gate's own point
     ∷ (gate (code "R") 1 0, [], turned 6 2)
     ∷ (gate (code "N") 1 1, [], turned 6 2)
     ∷ (gate (code "A") 1 2, [], turned 6 2)
     -- -0, a literal after a 0, one of no switch
-    ∷ (wish 1 0 0, [], turned 6 2)
-    ∷ (wish 0 2 0, [], turned 6 2)
-    ∷ (wish 4 0 0, [], turned 6 2)
+    ∷ (wish 1 0 0 1, [], turned 6 2)
+    ∷ (wish 0 2 0 1, [], turned 6 2)
+    ∷ (wish 4 0 0 0, [], turned 6 2)
+    -- a weight that is too small, or too large
+    ∷ (wish 2 0 0 0, [], turned 14 2)
+    ∷ (wish 2 0 0 1000, [], turned 14 2)
     -- no words at all
-    ∷ ([], replicate 34 7, written 0 0 0 34 (lines ("H    0    0    0" ∷ "Z    1    0    0" ∷ [])))
+    ∷ ([], replicate 44 7, written 0 0 0 44 (lines ("H    0    0    0    0" ∷ "Z    1    0    0    0" ∷ [])))
     ∷ []
 
-computed : All (λ e. e.2 ≡ written_of field_count (read_tables field_count (held e.0)) e.1) examples
+computed : All (λ e. e.2 ≡ written_of (read_tables (held e.0)) e.1) examples
 unfolding read_tables first_line entries gate_of clause_of tests_from tests make zeros literals clause body text fields_bytes field decimal
-computed = (refl, (refl, (refl, (refl, (refl, (refl, (refl, (refl, (refl, (refl, (refl, (refl, (refl, (refl, (refl, tt)))))))))))))))
+computed = (refl, (refl, (refl, (refl, (refl, (refl, (refl, (refl, (refl, (refl, (refl, (refl, (refl, (refl, (refl, (refl, (refl, tt)))))))))))))))))
 
-pub writing : All (λ e. IsWritten field_count e.0 e.1 e.2) examples
-writing = all_imply (λ e. e.2 ≡ written_of field_count (read_tables field_count (held e.0)) e.1) (λ e. IsWritten field_count e.0 e.1 e.2) (λ e. (tables_give field_count (omega arith) e.0 (λ r. written_of field_count r e.1) e.2).0) examples computed
+pub writing : All (λ e. IsWritten e.0 e.1 e.2) examples
+writing = all_imply (λ e. e.2 ≡ written_of (read_tables (held e.0)) e.1) (λ e. IsWritten e.0 e.1 e.2) (λ e. (tables_give e.0 (λ r. written_of r e.1) e.2).0) examples computed
 
 -- ---- gate 401: the words of one switch and 400 gates N 1, with a count of one more. What they hold is proved, since to compute it takes long
 
@@ -125,12 +133,12 @@ crowded_held : held crowded ≡ sheet 1 0 (replicate most_gates (Gate.not 1) ++ 
 unfolding words_of entries
 crowded_held = ap (λ gs. sheet 1 0 gs [] []) crowded_gates
 
-crowded_computed : read_tables field_count (sheet 1 0 (replicate most_gates (Gate.not 1) ++ no_gate ∷ []) [] []) ≡ refused 5 402 0
+crowded_computed : read_tables (sheet 1 0 (replicate most_gates (Gate.not 1) ++ no_gate ∷ []) [] []) ≡ refused 5 402 0
 unfolding read_tables first_line tests_from tests make zeros body
 crowded_computed = refl
 
-pub crowded_written : IsWritten field_count crowded [] (turned 5 402)
-crowded_written = (tables_give field_count (omega arith) crowded (λ r. written_of field_count r []) (turned 5 402)).0 (ap (λ r. written_of field_count r []) (sym crowded_computed) ∙ ap (λ t. written_of field_count (read_tables field_count t) []) (sym crowded_held))
+pub crowded_written : IsWritten crowded [] (turned 5 402)
+crowded_written = (tables_give crowded (λ r. written_of r []) (turned 5 402)).0 (ap (λ r. written_of r []) (sym crowded_computed) ∙ ap (λ t. written_of (read_tables t) []) (sym crowded_held))
 
 -- ---- a sheet read into words that hold 7: they are filled, or left as they were
 
@@ -138,11 +146,11 @@ abbrev pub lent : List ℕ
 lent = replicate word_count 7
 
 abbrev pub fillings : List (List String × ReadResult)
-fillings = (sample, read_result 0 0 0 (sample_words 0)) ∷ ("H    2    1    0" ∷ "N   +1    0    0" ∷ [], read_result 2 2 5 lent) ∷ []
+fillings = (sample, read_result 0 0 0 (sample_words 0)) ∷ ("H    2    1    0    0" ∷ "N   +1    0    0    0" ∷ [], read_result 2 2 5 lent) ∷ []
 
-fillings_computed : All (λ e. e.1 ≡ read_into (read field_count (lines e.0)) lent) fillings
+fillings_computed : All (λ e. e.1 ≡ read_into (read weighted (lines e.0)) lent) fillings
 unfolding words_of room flat read read_from tests_at line_at column_at column_of fields_bytes line_of letter_of fields_of field_of field decimal tests zeros make literals clause pick
 fillings_computed = (refl, (refl, tt))
 
-pub filling : All (λ e. IsRead (SheetRead field_count (lines e.0)) lent e.1) fillings
-filling = all_imply (λ e. e.1 ≡ read_into (read field_count (lines e.0)) lent) (λ e. IsRead (SheetRead field_count (lines e.0)) lent e.1) (λ e. (sheet_gives (lines e.0) (λ r. read_into r lent) e.1).0) fillings fillings_computed
+pub filling : All (λ e. IsRead (SheetRead weighted (lines e.0)) lent e.1) fillings
+filling = all_imply (λ e. e.1 ≡ read_into (read weighted (lines e.0)) lent) (λ e. IsRead (SheetRead weighted (lines e.0)) lent e.1) (λ e. (sheet_gives weighted (lines e.0) (λ r. read_into r lent) e.1).0) fillings fillings_computed
