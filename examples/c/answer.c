@@ -13,16 +13,17 @@
 
 #include "comzsered.h"
 
-/* One of two switches or two faults must be true, and both switches are wished to be off. */
+/* One of two switches or two faults must be true, and both switches are wished to be off, with the
+   weights 2 and 3. */
 static const char built_in[] =
-    "H    2    2    0\n"
-    "O    1    2    0\n"
-    "O    3    4    0\n"
-    "O    5    6    0\n"
-    "R    7    0    0\n"
-    "W   -1    0    0\n"
-    "W   -2    0    0\n"
-    "Z    7    0    0\n";
+    "H    2    2    0    0\n"
+    "O    1    2    0    0\n"
+    "O    3    4    0    0\n"
+    "O    5    6    0    0\n"
+    "R    7    0    0    0\n"
+    "W   -1    0    0    2\n"
+    "W   -2    0    0    3\n"
+    "Z    7    0    0    0\n";
 
 /* One byte more than the longest text, which is longer than any sheet: a longer file is refused. */
 static uint8_t input[COMZSERED_TEXT_MAX + 1];
@@ -76,7 +77,7 @@ static void print_plan(uint32_t plan, uint32_t cost, unsigned switches)
 {
     unsigned k;
 
-    printf("Plan %lu, broken wishes: %lu\n", (unsigned long)plan, (unsigned long)cost);
+    printf("Plan %lu, cost %lu\n", (unsigned long)plan, (unsigned long)cost);
     for (k = 1; k <= switches; k++)
         printf("  switch %u: %s\n", k, digit(plan, k, switches) ? "on" : "off");
 }

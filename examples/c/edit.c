@@ -11,16 +11,17 @@
 
 #include "comzsered.h"
 
-/* One of two switches or two faults must be true, and both switches are wished to be off. */
+/* One of two switches or two faults must be true, and both switches are wished to be off. The second
+   wish weighs 1, as no weight is named. */
 static const char text[] =
     "switches 2\n"
     "faults 2\n"
     "rule (s1|s2)|(f1|f2)\n"
-    "wish !s1\n"
+    "wish !s1 weight 2\n"
     "wish !s2\n";
 
 /* The bytes of a sheet's line. */
-#define LINE 17
+#define LINE 22
 
 /* Room for any sheet. */
 static uint8_t sheet[COMZSERED_SHEET_MAX];
@@ -42,6 +43,7 @@ int main(void)
 {
     size_t place, column, length;
     uint32_t number, both;
+    uint32_t *wish;
 
     number = comzsered_text_read((const uint8_t *)text, sizeof text - 1, &tables, &place, &column);
     if (number != COMZSERED_DONE)
@@ -52,7 +54,9 @@ int main(void)
     /* The second rule: not both switches are on. */
     both = add_gate('A', 1, 2);
     tables.rule[tables.rules++] = add_gate('N', both, 0);
-    tables.wish[tables.wishes++][0] = COMZSERED_ON(1);
+    wish = tables.wish[tables.wishes++];
+    wish[0] = COMZSERED_ON(1);
+    wish[COMZSERED_LITERALS_MAX] = 3;
 
     number = comzsered_write(&tables, sheet, sizeof sheet, &place, &column, &length);
     if (number != COMZSERED_DONE)

@@ -24,7 +24,8 @@ static comzsered_tables tables = {
     .rules = 1,
     .rule = {7},
     .wishes = 2,
-    .wish = {{COMZSERED_OFF(1)}, {COMZSERED_OFF(2)}},
+    /* Three literals and the weight. */
+    .wish = {{COMZSERED_OFF(1), 0, 0, 2}, {COMZSERED_OFF(2), 0, 0, 3}},
 };
 
 /* Writes the sheet into so many bytes of the buffer, prints it and what the planner says of it.
@@ -45,7 +46,7 @@ static size_t show(const char *title, size_t room)
     fwrite(sheet, 1, length, stdout);
     number = comzsered_answer(sheet, length, list, LISTED, &place, &column, &plan, &cost,
                               &listed);
-    printf("Answer: number %lu, plan %lu, broken wishes: %lu\n", (unsigned long)number,
+    printf("Answer: number %lu, plan %lu, cost %lu\n", (unsigned long)number,
            (unsigned long)plan, (unsigned long)cost);
     return length;
 }
@@ -67,7 +68,11 @@ int main(void)
     tables.wish[2][0] = COMZSERED_ON(1);
     tables.wish[2][1] = COMZSERED_OFF(2);
     tables.wishes = 3;
-    show("Switch 1 must be on besides, and one more wish:", sizeof sheet);
+    show("Switch 1 must be on besides, and one more wish, on line 9, whose weight was forgotten:",
+         sizeof sheet);
+
+    tables.wish[2][COMZSERED_LITERALS_MAX] = 1;
+    show("With a weight:", sizeof sheet);
 
     tables.gate[3][1] = 8;
     show("The last gate, on line 5, names itself:", sizeof sheet);

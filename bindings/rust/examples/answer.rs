@@ -10,16 +10,17 @@ use std::process::ExitCode;
 
 use comzsered::{answer, read, Answer, Input, Pattern, Plan, LIST_MAX};
 
-/// One of two switches or two faults must be true, and both switches are wished to be off.
+/// One of two switches or two faults must be true, and both switches are wished to be off, with the
+/// weights 2 and 3.
 const BUILT_IN: &[u8] = b"\
-H    2    2    0
-O    1    2    0
-O    3    4    0
-O    5    6    0
-R    7    0    0
-W   -1    0    0
-W   -2    0    0
-Z    7    0    0
+H    2    2    0    0
+O    1    2    0    0
+O    3    4    0    0
+O    5    6    0    0
+R    7    0    0    0
+W   -1    0    0    2
+W   -2    0    0    3
+Z    7    0    0    0
 ";
 
 fn main() -> ExitCode {
@@ -75,7 +76,7 @@ fn main() -> ExitCode {
 }
 
 fn print_plan(plan: Plan, cost: u32, switches: u32) {
-    println!("Plan {}, broken wishes: {cost}", plan.0);
+    println!("Plan {}, cost {cost}", plan.0);
     for k in 1..=switches {
         let state = if plan.is_on(k, switches) { "on" } else { "off" };
         println!("  switch {k}: {state}");

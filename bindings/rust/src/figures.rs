@@ -41,12 +41,12 @@ pub struct Words {
     /// A gate's letter, first point and second point.
     pub gate: [[u32; 3]; GATES_MAX],
     pub rule: [u32; RULES_MAX],
-    /// Literals, k as 2k and -k as 2k + 1, then zeros.
-    pub wish: [[u32; LITERALS_MAX]; WISHES_MAX],
+    /// A wish's literals, k as 2k and -k as 2k + 1, zeros for those that it has not, and its weight.
+    pub wish: [[u32; LITERALS_MAX + 1]; WISHES_MAX],
 }
 
 /// As the header has it.
-const _: () = assert!(size_of::<Words>() == 1_461 * size_of::<u32>());
+const _: () = assert!(size_of::<Words>() == 1_525 * size_of::<u32>());
 
 impl Words {
     /// No switch, fault, gate, rule or wish.
@@ -58,7 +58,7 @@ impl Words {
         wishes: 0,
         gate: [[0; 3]; GATES_MAX],
         rule: [0; RULES_MAX],
-        wish: [[0; LITERALS_MAX]; WISHES_MAX],
+        wish: [[0; LITERALS_MAX + 1]; WISHES_MAX],
     };
 }
 

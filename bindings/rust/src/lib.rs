@@ -1,11 +1,12 @@
 //! Safe calls into the proved planner.
 //!
 //! A planning sheet tells of switches that are set once, faults that may then occur in any
-//! combination, rules that must hold whatever the faults are, and wishes about the switches. The
-//! planner finds the plan, a setting of all switches, that keeps every rule under every pattern of
-//! faults and breaks as few wishes as possible. The same can be typed as a text. What either says can
-//! be read into tables, which a program can edit, and tables can be written as a sheet. The
-//! repository's `docs/FORMAT.md` describes sheets, texts, tables and every rule in full.
+//! combination, rules that must hold whatever the faults are, and wishes about the switches, each
+//! with a weight. The planner finds the plan, a setting of all switches, that keeps every rule under
+//! every pattern of faults and whose broken wishes weigh least together, which is its cost. The same
+//! can be typed as a text. What either says can be read into tables, which a program can edit, and
+//! tables can be written as a sheet. The repository's `docs/FORMAT.md` describes sheets, texts, tables
+//! and every rule in full.
 //!
 //! | Job | Function | Gives |
 //! |---|---|---|
@@ -17,28 +18,28 @@
 //! | Writing | [`write`](write()) | the sheet of some [`Tables`] |
 //!
 //! In this sheet one of two switches or two faults must be true, and both switches are wished to be
-//! off:
+//! off, with the weights 2 and 3:
 //!
 //! ```
 //! use comzsered::{answer, Answer, Plan, Sheet};
 //!
 //! let sheet = Sheet(b"\
-//! H    2    2    0\n\
-//! O    1    2    0\n\
-//! O    3    4    0\n\
-//! O    5    6    0\n\
-//! R    7    0    0\n\
-//! W   -1    0    0\n\
-//! W   -2    0    0\n\
-//! Z    7    0    0\n");
+//! H    2    2    0    0\n\
+//! O    1    2    0    0\n\
+//! O    3    4    0    0\n\
+//! O    5    6    0    0\n\
+//! R    7    0    0    0\n\
+//! W   -1    0    0    2\n\
+//! W   -2    0    0    3\n\
+//! Z    7    0    0    0\n");
 //!
 //! let mut list = [0; 16];
 //! match answer(sheet, &mut list) {
 //!     Answer::Plan { plan, cost, patterns } => {
-//!         // Switch 1 is off and switch 2 is on, which breaks one wish.
-//!         assert_eq!(plan, Plan(1));
-//!         assert!(!plan.is_on(1, 2) && plan.is_on(2, 2));
-//!         assert_eq!(cost, 1);
+//!         // Switch 1 is on and switch 2 is off, which breaks the wish that weighs 2.
+//!         assert_eq!(plan, Plan(2));
+//!         assert!(plan.is_on(1, 2) && !plan.is_on(2, 2));
+//!         assert_eq!(cost, 2);
 //!         // Plan 0 would break none, and fails under pattern 0: no fault at all.
 //!         assert_eq!(list[..patterns], [0]);
 //!     }
@@ -55,10 +56,10 @@
 //! switches 2\n\
 //! faults 2\n\
 //! rule (s1|s2)|(f1|f2)\n\
-//! wish !s1\n\
-//! wish !s2\n");
+//! wish !s1 weight 2\n\
+//! wish !s2 weight 3\n");
 //!
-//! let plan = Answer::Plan { plan: Plan(1), cost: 1, patterns: 1 };
+//! let plan = Answer::Plan { plan: Plan(2), cost: 2, patterns: 1 };
 //! assert_eq!(answer(text, &mut [0; 16]), plan);
 //! ```
 //!
@@ -105,8 +106,10 @@ pub const RULES_MAX: usize = 64;
 pub const WISHES_MAX: usize = 64;
 /// The literals of a wish at most.
 pub const LITERALS_MAX: usize = 3;
+/// The weight of a wish at most; the least is 1.
+pub const WEIGHT_MAX: u32 = 999;
 /// The bytes of the longest sheet. With so many, no writing ends in [`Cause::ShortBuffer`].
-pub const SHEET_MAX: usize = 9_010;
+pub const SHEET_MAX: usize = 11_660;
 /// The bytes of the longest typed text.
 pub const TEXT_MAX: usize = 16_384;
 /// The words of the longest list: with so many, an answer never ends in [`Answer::NoRoom`].
@@ -261,7 +264,11 @@ pub fn answer<'a>(input: impl Into<Input<'a>>, list: &mut [u32]) -> Answer {
 /// use comzsered::{answer, short_run, Answer, Plan, Sheet, ShortRun};
 ///
 /// // The one switch must be on, and is wished to be off.
-/// let sheet = Sheet(b"H    1    1    0\nR    1    0    0\nW   -1    0    0\nZ    3    0    0\n");
+/// let sheet = Sheet(b"\
+/// H    1    1    0    0\n\
+/// R    1    0    0    0\n\
+/// W   -1    0    0    1\n\
+/// Z    3    0    0    0\n");
 /// let mut list = [0; 2];
 /// assert_eq!(answer(sheet, &mut list), Answer::Plan { plan: Plan(1), cost: 1, patterns: 1 });
 /// assert_eq!(short_run(sheet, &list[..1]), ShortRun::Plan { plan: Plan(1), cost: 1 });
@@ -278,9 +285,14 @@ pub fn short_run<'a>(input: impl Into<Input<'a>>, patterns: &[u32]) -> ShortRun 
 /// use comzsered::{rating, Cause, Pattern, Plan, Rating, Sheet};
 ///
 /// // The switch or the fault must be true, and the switch is wished to be off.
-/// let sheet = Sheet(b"H    1    1    0\nO    1    2    0\nR    3    0    0\nW   -1    0    0\nZ    4    0    0\n");
+/// let sheet = Sheet(b"\
+/// H    1    1    0    0\n\
+/// O    1    2    0    0\n\
+/// R    3    0    0    0\n\
+/// W   -1    0    0   20\n\
+/// Z    4    0    0    0\n");
 /// assert_eq!(rating(sheet, Plan(0)), Rating::NotSound { cost: 0, pattern: Pattern(0) });
-/// assert_eq!(rating(sheet, Plan(1)), Rating::Sound { cost: 1 });
+/// assert_eq!(rating(sheet, Plan(1)), Rating::Sound { cost: 20 });
 ///
 /// let Rating::Refused(refusal) = rating(sheet, Plan(2)) else { panic!() };
 /// assert_eq!(refusal.cause, Cause::HighPlan);
@@ -294,7 +306,10 @@ pub fn rating<'a>(input: impl Into<Input<'a>>, plan: Plan) -> Rating {
 /// number 2 the column stands there instead of the cost.
 ///
 /// ```
-/// let sheet = comzsered::Sheet(b"H    0    1    0\nR    1    0    0\nZ    2    0    0\n");
+/// let sheet = comzsered::Sheet(b"\
+/// H    0    1    0    0\n\
+/// R    1    0    0    0\n\
+/// Z    2    0    0    0\n");
 /// let printed = b"A    8    0    0\nF    1    0    0\nZ    2    0    0\n";
 /// assert_eq!(comzsered::listing(sheet), printed);
 /// ```
@@ -310,12 +325,12 @@ pub fn listing<'a>(input: impl Into<Input<'a>>) -> Vec<u8> {
 /// ```
 /// use comzsered::{read, Gate, Literal, Point, Text, Wish};
 ///
-/// let text = Text(b"switches 2\nfaults 1\nrule s1 | !f1\nwish !s1 s2\n");
+/// let text = Text(b"switches 2\nfaults 1\nrule s1 | !f1\nwish !s1 s2 weight 20\n");
 /// let tables = read(text).unwrap();
 /// assert_eq!((tables.switches, tables.faults), (2, 1));
 /// assert_eq!(tables.gates, [Gate::Not(Point(3)), Gate::Or(Point(1), Point(4))]);
 /// assert_eq!(tables.rules, [Point(5)]);
-/// assert_eq!(tables.wishes, [Wish::from([Literal::off(1), Literal::on(2)])]);
+/// assert_eq!(tables.wishes, [Wish::from([Literal::off(1), Literal::on(2)]).weighing(20)]);
 /// ```
 pub fn read<'a>(input: impl Into<Input<'a>>) -> Result<Tables, Refusal> {
     let mut words = Words::EMPTY;
@@ -338,16 +353,16 @@ pub fn read<'a>(input: impl Into<Input<'a>>) -> Result<Tables, Refusal> {
 /// // One of two switches must be on, and both are wished to be off.
 /// let text = Text(b"switches 2\nfaults 0\nrule s1|s2\nwish !s1\n");
 /// let mut tables = read(text).unwrap();
-/// tables.wishes.push(Wish::from([Literal::off(2)]));
+/// tables.wishes.push(Wish::from([Literal::off(2)]).weighing(20));
 /// let sheet = write(&tables).unwrap();
 /// assert_eq!(sheet, b"\
-/// H    2    0    0\n\
-/// O    1    2    0\n\
-/// R    3    0    0\n\
-/// W   -1    0    0\n\
-/// W   -2    0    0\n\
-/// Z    5    0    0\n");
-/// let plan = Answer::Plan { plan: Plan(1), cost: 1, patterns: 1 };
+/// H    2    0    0    0\n\
+/// O    1    2    0    0\n\
+/// R    3    0    0    0\n\
+/// W   -1    0    0    1\n\
+/// W   -2    0    0   20\n\
+/// Z    5    0    0    0\n");
+/// let plan = Answer::Plan { plan: Plan(2), cost: 1, patterns: 1 };
 /// assert_eq!(answer(Sheet(&sheet), &mut [0; 1]), plan);
 ///
 /// // Point 4 is not on the sheet, and the rule would stand on line 3.
@@ -369,13 +384,16 @@ pub fn write(tables: &Tables) -> Result<Vec<u8>, Refusal> {
 mod tests {
     use super::*;
 
+    /// The numbers of a line.
+    const FIELDS: usize = 4;
+
     /// A sheet written short, as "H 1 0; Z 1": numbers left out are 0.
     pub fn sheet(short: &str) -> Vec<u8> {
         let mut bytes = Vec::new();
         for line in short.split(';') {
             let mut words = line.split_whitespace();
             bytes.extend(words.next().expect("a letter").bytes());
-            for _ in 0..3 {
+            for _ in 0..FIELDS {
                 bytes.extend(format!("{:>5}", words.next().unwrap_or("0")).bytes());
             }
             bytes.push(b'\n');
@@ -383,10 +401,12 @@ mod tests {
         bytes
     }
 
-    pub const SAMPLE: &str = "H 2 2; O 1 2; O 3 4; O 5 6; R 7; W -1; W -2; Z 7";
+    pub const SAMPLE: &str = "H 2 2; O 1 2; O 3 4; O 5 6; R 7; W -1 0 0 1; W -2 0 0 1; Z 7";
     /// The same typed.
     pub const TEXT: Text =
         Text(b"switches 2\nfaults 2\nrule (s1|s2)|(f1|f2)\nwish !s1\nwish !s2\n");
+    /// The sample with other weights.
+    const WEIGHED: &str = "H 2 2; O 1 2; O 3 4; O 5 6; R 7; W -1 0 0 2; W -2 0 0 3; Z 7";
     const FOLLOWER: &str = "H 1 1; N 1; N 2; A 1 2; A 3 4; O 5 6; R 7; Z 7";
 
     /// Without a column, which the library tells of a malformed line only.
@@ -395,7 +415,8 @@ mod tests {
     }
 
     /// The second line has a minus without a digit.
-    const MALFORMED: Sheet = Sheet(b"H    1    0    0\nW    1    -    0\nZ    2    0    0\n");
+    const MALFORMED: Sheet =
+        Sheet(b"H    1    0    0    0\nW    1    -    0    1\nZ    2    0    0    0\n");
 
     #[test]
     fn answers() {
@@ -406,6 +427,15 @@ mod tests {
             patterns: 1,
         };
         assert_eq!(answer(Sheet(&sheet(SAMPLE)), &mut list), plan);
+        assert_eq!(list, [0, 77, 77, 77]);
+
+        let mut list = [77; 4];
+        let plan = Answer::Plan {
+            plan: Plan(2),
+            cost: 2,
+            patterns: 1,
+        };
+        assert_eq!(answer(Sheet(&sheet(WEIGHED)), &mut list), plan);
         assert_eq!(list, [0, 77, 77, 77]);
 
         let mut list = [77; 4];
@@ -423,6 +453,11 @@ mod tests {
         assert_eq!(answer(Sheet(b""), &mut list), wrong);
         let wrong = Answer::Refused(refused(Cause::BadCount, 2));
         assert_eq!(answer(Sheet(&sheet("H; Z 2")), &mut list), wrong);
+        for weight in ["0", "-1", "1000", "99999"] {
+            let sheet = sheet(&format!("H 1; W 1 0 0 {weight}; Z 2"));
+            let wrong = Answer::Refused(refused(Cause::BadWeight, 2));
+            assert_eq!(answer(Sheet(&sheet), &mut list), wrong);
+        }
         let wrong = Answer::Refused(refusal(Cause::Malformed, 2, 11));
         assert_eq!(answer(MALFORMED, &mut list), wrong);
         assert_eq!(list, [77; 4]);
@@ -463,6 +498,11 @@ mod tests {
             (
                 b"switches 1\nfaults 1\nrule s1\nrule s2\n",
                 Cause::BadField,
+                4,
+            ),
+            (
+                b"switches 1\nfaults 1\nwish s1\nwish s1 weight 0\n",
+                Cause::BadWeight,
                 4,
             ),
             (&[b'\n'; TEXT_MAX + 1], Cause::IllegalText, 0),
@@ -549,7 +589,7 @@ Z    6    0    0
     /// Each number of Answer and Short run becomes one case and loses no figure of it.
     #[test]
     fn every_number_of_a_search() {
-        for number in 0..=13 {
+        for number in 0..=14 {
             let found = Found {
                 number,
                 place: 5,
@@ -586,7 +626,7 @@ Z    6    0    0
 
     #[test]
     fn every_number_of_a_rating() {
-        for number in 0..=13 {
+        for number in 0..=14 {
             let rated = |sound| Rated {
                 number,
                 place: 5,
@@ -626,7 +666,7 @@ Z    6    0    0
         };
         words.gate[..3].copy_from_slice(&[[79, 1, 2], [79, 3, 4], [79, 5, 6]]);
         words.rule[0] = 7;
-        words.wish[..2].copy_from_slice(&[[3, 0, 0], [5, 0, 0]]);
+        words.wish[..2].copy_from_slice(&[[3, 0, 0, 1], [5, 0, 0, 1]]);
         words
     }
 
@@ -636,7 +676,7 @@ Z    6    0    0
         let any = Words {
             switches: 77,
             gate: [[77; 3]; GATES_MAX],
-            wish: [[77; LITERALS_MAX]; WISHES_MAX],
+            wish: [[77; LITERALS_MAX + 1]; WISHES_MAX],
             ..Words::EMPTY
         };
         let sheet = sheet(SAMPLE);
@@ -660,7 +700,7 @@ Z    6    0    0
         let mut words = words();
         words.gate[3] = [0, 77, 77];
         words.rule[1] = 99;
-        words.wish[2] = [0, 1, 1];
+        words.wish[2] = [0, 1, 1, 0];
         let sheet = sheet(SAMPLE);
         let need = sheet.len();
         for room in [need, need + 4] {

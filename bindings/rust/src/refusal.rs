@@ -8,7 +8,7 @@ use std::fmt;
 #[derive(Clone, Copy, Debug, PartialEq, Eq, Hash)]
 #[repr(u32)]
 pub enum Cause {
-    /// The sheet's length is 0, above 9,010 or no multiple of 17.
+    /// The sheet's length is 0, above 11,660 or no multiple of 22.
     BadLength = 1,
     /// A line is malformed, or its letter is unknown. This cause alone has a column.
     Malformed = 2,
@@ -35,10 +35,12 @@ pub enum Cause {
     /// The buffer is shorter than the sheet to be written. It comes from
     /// [`figures::write`](crate::figures::write) alone.
     ShortBuffer = 13,
+    /// The weight of a wish is not 1 to 999.
+    BadWeight = 14,
 }
 
 impl Cause {
-    const ALL: [Cause; 13] = [
+    const ALL: [Cause; 14] = [
         Cause::BadLength,
         Cause::Malformed,
         Cause::BadOrder,
@@ -52,6 +54,7 @@ impl Cause {
         Cause::HighPattern,
         Cause::IllegalText,
         Cause::ShortBuffer,
+        Cause::BadWeight,
     ];
 
     /// The number that the library, the programs and the papers tell it by.
@@ -80,7 +83,10 @@ impl Cause {
 /// ```
 /// use comzsered::{answer, Answer, Cause, Sheet};
 ///
-/// let sheet = Sheet(b"H    1    0    0\nO    1    2    0\nZ    2    0    0\n");
+/// let sheet = Sheet(b"\
+/// H    1    0    0    0\n\
+/// O    1    2    0    0\n\
+/// Z    2    0    0    0\n");
 /// let Answer::Refused(refusal) = answer(sheet, &mut []) else { panic!() };
 /// assert_eq!((refusal.cause, refusal.place, refusal.column), (Cause::BadField, 2, 0));
 /// assert_eq!(refusal.cause.number(), 6);
@@ -97,7 +103,10 @@ impl Cause {
 /// ```
 /// use comzsered::{answer, Answer, Cause, Sheet};
 ///
-/// let sheet = Sheet(b"H    1    0    0\nR   01    0    0\nZ    2    0    0\n");
+/// let sheet = Sheet(b"\
+/// H    1    0    0    0\n\
+/// R   01    0    0    0\n\
+/// Z    2    0    0    0\n");
 /// let Answer::Refused(refusal) = answer(sheet, &mut []) else { panic!() };
 /// assert_eq!((refusal.cause, refusal.place, refusal.column), (Cause::Malformed, 2, 5));
 /// assert_eq!(
@@ -124,8 +133,8 @@ pub struct Refusal {
     pub cause: Cause,
     /// A line, a byte or a position, counted from 1; 0 where there is none.
     pub place: usize,
-    /// The column, 1 to 17, at which a malformed line stops being the beginning of any well-formed
-    /// one, the line feed being 17; 0 where there is none.
+    /// The column, 1 to 22, at which a malformed line stops being the beginning of any well-formed
+    /// one, the line feed being 22; 0 where there is none.
     pub column: usize,
 }
 
@@ -142,13 +151,14 @@ impl fmt::Display for Refusal {
             | Cause::OutOfRange
             | Cause::OverLimit
             | Cause::BadField
-            | Cause::BadCount => write!(f, "line {place}: ")?,
+            | Cause::BadCount
+            | Cause::BadWeight => write!(f, "line {place}: ")?,
             Cause::HighPattern => write!(f, "pattern {place} of the given ones: ")?,
             Cause::IllegalText if place != 0 => write!(f, "byte {place}: ")?,
             _ => {}
         }
         f.write_str(match cause {
-            Cause::BadLength => "the sheet's length is 0, above 9,010 or no multiple of 17",
+            Cause::BadLength => "the sheet's length is 0, above 11,660 or no multiple of 22",
             Cause::Malformed => "no well-formed line begins like this",
             Cause::BadOrder => "this letter is not allowed at this line",
             Cause::OutOfRange => {
@@ -167,6 +177,7 @@ impl fmt::Display for Refusal {
             Cause::IllegalText if place == 0 => "the text is longer than 16,384 bytes",
             Cause::IllegalText => "no legal text goes on like this",
             Cause::ShortBuffer => "the sheet is longer than the room lent for it",
+            Cause::BadWeight => "the weight of this wish is not 1 to 999",
         })
     }
 }
@@ -189,13 +200,13 @@ mod tests {
 
     #[test]
     fn no_cause() {
-        assert_eq!([0, 14].map(Cause::from_number), [None, None]);
+        assert_eq!([0, 15].map(Cause::from_number), [None, None]);
     }
 
     #[test]
     #[should_panic(expected = "another version")]
     fn no_such_number() {
-        Cause::of(14);
+        Cause::of(15);
     }
 
     #[test]
@@ -203,7 +214,7 @@ mod tests {
         let said = |cause, place| refused(cause, place).to_string();
         assert_eq!(
             said(Cause::BadLength, 0),
-            "the sheet's length is 0, above 9,010 or no multiple of 17"
+            "the sheet's length is 0, above 11,660 or no multiple of 22"
         );
         let malformed = Refusal {
             cause: Cause::Malformed,
@@ -226,6 +237,10 @@ mod tests {
             "the text is longer than 16,384 bytes"
         );
         assert!(!said(Cause::ShortBuffer, 0).contains('0'));
+        assert_eq!(
+            said(Cause::BadWeight, 7),
+            "line 7: the weight of this wish is not 1 to 999"
+        );
         let all: BTreeSet<String> = Cause::ALL.into_iter().map(|c| said(c, 1)).collect();
         assert_eq!(all.len(), Cause::ALL.len());
     }

@@ -23,19 +23,24 @@ pub struct Literal {
     pub on: bool,
 }
 
-/// At least one of up to three literals should hold. A wish without any is always broken.
+/// At least one of up to three literals should hold. A wish without any is always broken. Its weight
+/// is what it costs to break it, 1 unless another is named.
 ///
 /// ```
 /// use comzsered::{Literal, Wish};
 ///
 /// let wish = Wish::from([Literal::on(1), Literal::off(2)]);
 /// assert_eq!(wish.literals().count(), 2);
+/// assert_eq!((wish.weight, wish.weighing(20).weight), (1, 20));
 /// assert_eq!(Wish::new(&[Literal::on(1); 4]), None);
 /// ```
-#[derive(Clone, Copy, Debug, Default, PartialEq, Eq, Hash)]
+#[derive(Clone, Copy, Debug, PartialEq, Eq, Hash)]
 pub struct Wish {
     /// The literals stand first.
     literals: [Option<Literal>; LITERALS_MAX],
+    /// 1 to [`WEIGHT_MAX`](crate::WEIGHT_MAX); another is not written
+    /// ([`Cause::BadWeight`](crate::Cause::BadWeight)).
+    pub weight: u32,
 }
 
 /// What a sheet says: [`read`](crate::read) gives it, and [`write`](crate::write) takes it.
@@ -47,14 +52,14 @@ pub struct Wish {
 /// let mut tables = Tables { switches: 1, faults: 1, ..Tables::default() };
 /// let either = tables.add(Gate::Or(tables.switch(1), tables.fault(1)));
 /// tables.rules.push(either);
-/// tables.wishes.push(Wish::from([Literal::off(1)]));
+/// tables.wishes.push(Wish::from([Literal::off(1)]).weighing(20));
 ///
 /// let sheet = b"\
-/// H    1    1    0\n\
-/// O    1    2    0\n\
-/// R    3    0    0\n\
-/// W   -1    0    0\n\
-/// Z    4    0    0\n";
+/// H    1    1    0    0\n\
+/// O    1    2    0    0\n\
+/// R    3    0    0    0\n\
+/// W   -1    0    0   20\n\
+/// Z    4    0    0    0\n";
 /// assert_eq!(comzsered::write(&tables).unwrap(), sheet);
 /// ```
 #[derive(Clone, Debug, Default, PartialEq, Eq)]
@@ -129,19 +134,37 @@ impl Wish {
         Some(wish)
     }
 
+    /// The same wish with this weight.
+    pub const fn weighing(self, weight: u32) -> Wish {
+        Wish { weight, ..self }
+    }
+
     pub fn literals(&self) -> impl Iterator<Item = Literal> + '_ {
         self.literals.iter().copied().flatten()
     }
 
-    fn words(&self) -> [u32; LITERALS_MAX] {
-        self.literals
-            .map(|literal| literal.map_or(0, Literal::word))
+    fn words(&self) -> [u32; LITERALS_MAX + 1] {
+        let [first, second, third] = self
+            .literals
+            .map(|literal| literal.map_or(0, Literal::word));
+        [first, second, third, self.weight]
     }
 
     /// The wish that the library read.
-    fn of(words: [u32; LITERALS_MAX]) -> Wish {
+    fn of([first, second, third, weight]: [u32; LITERALS_MAX + 1]) -> Wish {
         Wish {
-            literals: words.map(Literal::of),
+            literals: [first, second, third].map(Literal::of),
+            weight,
+        }
+    }
+}
+
+/// No literal, and the weight 1.
+impl Default for Wish {
+    fn default() -> Wish {
+        Wish {
+            literals: [None; LITERALS_MAX],
+            weight: 1,
         }
     }
 }
@@ -223,7 +246,7 @@ fn count<T>(entries: &[T]) -> u32 {
 mod tests {
     use super::*;
     use crate::tests::{refused, sheet, SAMPLE, TEXT};
-    use crate::{read, write, Cause, Refusal, Sheet, Text};
+    use crate::{read, write, Cause, Refusal, Sheet, Text, WEIGHT_MAX};
 
     /// What [`SAMPLE`] says.
     fn sample() -> Tables {
@@ -249,12 +272,15 @@ mod tests {
         assert_eq!(read(Sheet(&sheet(SAMPLE))), Ok(sample()));
         assert_eq!(read(TEXT), Ok(sample()));
         assert_eq!(write(&sample()), Ok(sheet(SAMPLE)));
-        let all = "H 3 1; N 4; A 1 5; O 6 2; R 7; R 1; W 1 -2 3; W -3 3; W 1; W; Z 10";
+        let all = "H 3 1; N 4; A 1 5; O 6 2; R 7; R 1; \
+                   W 1 -2 3 999; W -3 3 0 2; W 1 0 0 1; W 0 0 0 1; Z 10";
         let tables = read(Sheet(&sheet(all))).unwrap();
         assert_eq!(tables.gates[0], Gate::Not(tables.fault(1)));
         assert_eq!(tables.gates[1], Gate::And(tables.switch(1), tables.gate(1)));
         let literals: Vec<Literal> = tables.wishes[0].literals().collect();
         assert_eq!(literals, [Literal::on(1), Literal::off(2), Literal::on(3)]);
+        let weights: Vec<u32> = tables.wishes.iter().map(|wish| wish.weight).collect();
+        assert_eq!(weights, [WEIGHT_MAX, 2, 1, 1]);
         assert_eq!(tables.wishes[3], Wish::default());
         assert_eq!(write(&tables), Ok(sheet(all)));
     }
@@ -276,11 +302,15 @@ mod tests {
             read(Text(b"switches 9\nfault")),
             Err(refused(Cause::IllegalText, 17))
         );
-        let malformed = Sheet(b"H    0    0    0\nZ    1    0   0 \n");
+        assert_eq!(
+            read(Sheet(&sheet("H 1; W 1; Z 2"))),
+            Err(refused(Cause::BadWeight, 2))
+        );
+        let malformed = Sheet(b"H    0    0    0    0\nZ    1    0    0   0 \n");
         let refusal = Refusal {
             cause: Cause::Malformed,
             place: 2,
-            column: 15,
+            column: 20,
         };
         assert_eq!(read(malformed), Err(refusal));
     }
@@ -312,6 +342,13 @@ mod tests {
         for literal in no_such.into_iter().chain(too_large) {
             let wish = Wish::from([Literal::on(1), literal]);
             cases.push((changed(|t| t.wishes[1] = wish), Cause::BadField, 7));
+            // The weight comes after the literals.
+            let wish = wish.weighing(0);
+            cases.push((changed(|t| t.wishes[1] = wish), Cause::BadField, 7));
+        }
+        for weight in [0, WEIGHT_MAX + 1, u32::MAX] {
+            let wish = Wish::from([Literal::on(1)]).weighing(weight);
+            cases.push((changed(|t| t.wishes[1] = wish), Cause::BadWeight, 7));
         }
         for (tables, cause, place) in cases {
             assert_eq!(write(&tables), Err(refused(cause, place)), "{tables:?}");
@@ -336,7 +373,7 @@ mod tests {
         let full = changed(|t| {
             t.gates.resize(400, or);
             t.rules.resize(64, Point(1));
-            t.wishes.resize(64, Wish::default());
+            t.wishes.resize(64, Wish::default().weighing(WEIGHT_MAX));
         });
         assert_eq!(read(Sheet(&write(&full).unwrap())), Ok(full));
     }
@@ -381,6 +418,10 @@ mod tests {
         for n in 0..=LITERALS_MAX {
             let wish = Wish::new(&all[..n]).unwrap();
             assert_eq!(wish.literals().collect::<Vec<_>>(), all[..n]);
+            assert_eq!(wish.weight, 1);
+            let heavy = wish.weighing(u32::MAX);
+            assert_eq!(heavy.literals().collect::<Vec<_>>(), all[..n]);
+            assert_eq!(Wish::of(heavy.words()), heavy);
         }
         assert_eq!(Wish::new(&all), None);
     }
