@@ -2,6 +2,7 @@
 //! the words that are said if it applies. A test looks at the line of the refusal, or at a beginning
 //! that no input has which is taken; so what it finds is a cause of the refusal.
 
+use crate::listing;
 use crate::options::Form;
 use crate::spot::{Spot, LINE};
 
@@ -17,7 +18,7 @@ struct Hint {
     words: &'static str,
 }
 
-const HINTS: [Hint; 11] = [
+const HINTS: [Hint; 12] = [
     Hint {
         applies: is_text_for_sheet,
         words: "This looks like a typed text, and is taken as a sheet: \
@@ -61,12 +62,17 @@ const HINTS: [Hint; 11] = [
         words: "The last line has no line feed at its end: press Enter there, and save.",
     },
     Hint {
+        applies: has_three_numbers,
+        words: "Lines of 17 bytes are the form before weights: each line has a fourth number of \
+                five columns now. On a W line it is the weight, 1 to 999, and on every other 0.",
+    },
+    Hint {
         applies: has_small_letter,
         words: "The letters of a sheet are capitals: H, N, A, O, R, W and Z.",
     },
     Hint {
         applies: has_capital,
-        words: "A typed text has small letters only: switches, faults, rule, wish, s1, f1.",
+        words: "A typed text has small letters only: switches, faults, rule, wish, weight, s1, f1.",
     },
 ];
 
@@ -86,6 +92,8 @@ const TAB: u8 = b'\t';
 const SWITCHES: &[u8] = b"switches";
 /// The letters of a sheet, as they are typed by mistake.
 const SMALL_LETTERS: &[u8] = b"hnaorwz";
+/// The numbers of a line before there were weights.
+const NUMBERS_BEFORE: usize = 3;
 
 fn without_mark(bytes: &[u8]) -> &[u8] {
     let mark = |mark: &&[u8]| bytes.strip_prefix(*mark);
@@ -106,7 +114,7 @@ fn is_text_for_sheet(refused: &Refused) -> bool {
     refused.form == Form::Sheet && begin.is_some_and(|word| word.eq_ignore_ascii_case(SWITCHES))
 }
 
-/// Its first line is like `H    3    3    0`.
+/// Its first line is like `H    3    3    0    0`.
 fn is_sheet_for_text(refused: &Refused) -> bool {
     let is_head = match without_mark(refused.input) {
         [b'H' | b'h', next, ..] => is_before_number(*next),
@@ -154,6 +162,11 @@ fn has_no_last_line_feed(refused: &Refused) -> bool {
     })
 }
 
+fn has_three_numbers(refused: &Refused) -> bool {
+    let line = listing::line(line(refused));
+    refused.form == Form::Sheet && line.is_some_and(|line| line.numbers.len() == NUMBERS_BEFORE)
+}
+
 fn has_small_letter(refused: &Refused) -> bool {
     let is_small = match line(refused) {
         [letter, next, ..] => SMALL_LETTERS.contains(letter) && is_before_number(*next),
@@ -191,7 +204,14 @@ mod tests {
         given(Form::Text, input.as_bytes())
     }
 
-    const SHEET: &str = "H    1    0    0\nR    1    0    0\nW   -1    0    0\nZ    3    0    0\n";
+    const SHEET: &str = "\
+H    1    0    0    0
+R    1    0    0    0
+W   -1    0    0    1
+Z    3    0    0    0
+";
+    /// The form before weights.
+    const OF_17: &str = "H    1    0    0\nR    1    0    0\nW   -1    0    0\nZ    3    0    0\n";
     const TEXT: &str = "switches 1\nfaults 0\nrule s1\nwish !s1\n";
 
     const TYPED_TEXT: &str = "This looks like a typed text";
@@ -203,6 +223,7 @@ mod tests {
     const OTHER: &str = "There is a character in this line that is not plain ASCII";
     const BLANK: &str = "The line is blank";
     const NO_LINE_FEED: &str = "The last line has no line feed at its end";
+    const BEFORE: &str = "Lines of 17 bytes are the form before weights";
     const CAPITALS: &str = "The letters of a sheet are capitals";
     const SMALL: &str = "A typed text has small letters only";
 
@@ -214,8 +235,8 @@ mod tests {
         // Longer than any sheet, and longer than any text.
         assert_eq!(of_sheet(&TEXT.repeat(500)), [TYPED_TEXT]);
         assert_eq!(of_text(&SHEET.repeat(500)), [PLANNING_SHEET]);
-        // Seventeen bytes, and so not refused for its length.
-        assert_eq!(of_sheet("switches 1\nfaults"), [TYPED_TEXT]);
+        // As long as a line, and so not refused for its length.
+        assert_eq!(of_sheet(&TEXT[..LINE]), [TYPED_TEXT]);
     }
 
     #[test]
@@ -236,7 +257,10 @@ mod tests {
         assert_eq!(of_text(&TEXT.replace('\n', "\r")), [CR]);
         // In some line, and as the last byte.
         assert_eq!(of_text("switches 1\nfaults 0\r\nrule s1\n"), [CR_LF]);
-        assert_eq!(of_sheet("H    1    0    0\nZ    1    0    0\r"), [CR]);
+        assert_eq!(
+            of_sheet("H    1    0    0    0\nZ    1    0    0    0\r"),
+            [CR]
+        );
     }
 
     #[test]
@@ -275,6 +299,24 @@ mod tests {
     }
 
     #[test]
+    fn three_numbers() {
+        assert_eq!(of_sheet(OF_17), [BEFORE]);
+        // So many lines that the length is that of a sheet.
+        let wishes = OF_17.replace("W   -1    0    0\n", &"W   -1    0    0\n".repeat(LINE - 3));
+        assert_eq!(wishes.len() % LINE, 0);
+        assert_eq!(of_sheet(&wishes), [BEFORE]);
+        // One line of many, the last one without its line feed, and small letters.
+        let one = SHEET.replace("W   -1    0    0    1", "W   -1    0    0");
+        assert_eq!(of_sheet(&one), [BEFORE]);
+        assert_eq!(of_sheet(SHEET.trim_end_matches("    0\n")), [BEFORE]);
+        assert_eq!(of_sheet(&OF_17.to_lowercase()), [BEFORE, CAPITALS]);
+        // As many characters, and other columns.
+        let other = SHEET.replace("W   -1    0    0    1", "W   -1  0  0   3");
+        assert!(of_sheet(&other).is_empty());
+        assert_eq!(of_text(OF_17), [PLANNING_SHEET]);
+    }
+
+    #[test]
     fn letters() {
         assert_eq!(of_sheet(&SHEET.to_lowercase()), [CAPITALS]);
         assert_eq!(of_sheet(&SHEET.replace('W', "w")), [CAPITALS]);
@@ -287,11 +329,12 @@ mod tests {
     fn none() {
         for sheet in [
             "",
-            "H    1    0    0\nR   01    0    0\nZ    2    0    0\n",
-            "X    1    0    0\n",
-            "H    1    0    0\nZ    2    0    0\n",
-            "H   21    0    0\nZ    1    0    0\n",
-            "H    1    0    0\nR    2    0    0\nZ    2    0    0\n",
+            "H    1    0    0    0\nR   01    0    0    0\nZ    2    0    0    0\n",
+            "X    1    0    0    0\n",
+            "H    1    0    0    0\nZ    2    0    0    0\n",
+            "H   21    0    0    0\nZ    1    0    0    0\n",
+            "H    1    0    0    0\nR    2    0    0    0\nZ    2    0    0    0\n",
+            "H    1    0    0    0\nW    1    0    0    0\nZ    2    0    0    0\n",
         ] {
             assert!(of_sheet(sheet).is_empty(), "{sheet}");
         }
@@ -300,6 +343,7 @@ mod tests {
             "hello\n",
             "switches 21\nfaults 0\n",
             "switches 3\nfaults 0\nrule s1  & s2\n",
+            "switches 3\nfaults 0\nwish s1 weight 0\n",
         ] {
             assert!(of_text(text).is_empty(), "{text}");
         }
@@ -318,6 +362,7 @@ mod tests {
             OTHER,
             BLANK,
             NO_LINE_FEED,
+            BEFORE,
             CAPITALS,
             SMALL,
         ];

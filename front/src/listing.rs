@@ -29,6 +29,8 @@ pub enum Printed {
 pub struct Listing {
     /// Why there is no plan; None if there is one.
     pub refusal: Option<Refusal>,
+    /// What the plan costs; 0 if there is none.
+    pub cost: usize,
     /// For each switch whether it is on.
     pub switches: Vec<bool>,
     /// For each wish whether it is kept.
@@ -76,7 +78,9 @@ pub fn read(output: &[u8]) -> Option<Printed> {
 fn listing(answer: &Line, rest: &[Line]) -> Option<Listing> {
     let mut listing = Listing::default();
     let (number, place, third) = (answer.number(0)?, answer.number(1)?, answer.number(2)?);
-    if number != 0 {
+    if number == 0 {
+        listing.cost = third;
+    } else {
         let cause = Cause::from_number(u32::try_from(number).ok()?)?;
         // The third number is the column, or else the cost.
         let column = if cause == Cause::Malformed { third } else { 0 };
@@ -98,9 +102,10 @@ fn listing(answer: &Line, rest: &[Line]) -> Option<Listing> {
     Some(listing)
 }
 
-struct Line {
+/// A line of a listing or of a sheet.
+pub struct Line {
     letter: u8,
-    numbers: Vec<i32>,
+    pub numbers: Vec<i32>,
 }
 
 impl Line {
@@ -110,7 +115,8 @@ impl Line {
     }
 }
 
-fn line(bytes: &[u8]) -> Option<Line> {
+/// None if this is no letter with numbers of five columns each.
+pub fn line(bytes: &[u8]) -> Option<Line> {
     let (&letter, fields) = bytes.split_first()?;
     let number = |field: &[u8]| std::str::from_utf8(field).ok()?.trim_start().parse().ok();
     let whole = fields.len() % FIELD == 0;
@@ -125,7 +131,7 @@ mod tests {
     use super::*;
 
     const PLAN: &[u8] = b"\
-A    0    0    1
+A    0    063936
 S    1    0    0
 S    2    1    0
 W    1    1    0
@@ -147,6 +153,7 @@ Z    7    0    0
         let listing = read_listing(PLAN);
         let expected = Listing {
             refusal: None,
+            cost: 63_936,
             switches: vec![false, true],
             wishes: vec![true, false],
             patterns: vec![0, 65_535],
@@ -165,6 +172,7 @@ Z    7    0    0
             ("A    8    0    0", (8, 0, 0), Status::NoPlan, true),
             ("A    9    0    0", (9, 0, 0), Status::Refused, true),
             ("A   1216384    0", (12, 16_384, 0), Status::Refused, false),
+            ("A   14   66    0", (14, 66, 0), Status::Refused, false),
         ] {
             let listing = read_listing(format!("{answer}\nZ    1    0    0\n").as_bytes());
             let Refusal {
@@ -173,6 +181,7 @@ Z    7    0    0
                 column,
             } = listing.refusal.unwrap();
             assert_eq!((cause.number(), place, column), refused);
+            assert_eq!(listing.cost, 0);
             assert_eq!(listing.status(), status, "{answer}");
             assert_eq!(listing.is_searched(), searched, "{answer}");
         }
@@ -180,11 +189,8 @@ Z    7    0    0
 
     #[test]
     fn sheets() {
-        let sheet = b"H    1    0    0\nW   -1    0    0\nZ    2    0    0\n";
+        let sheet = b"H    1    0    0    0\nW   -1    0    0  999\nZ    2    0    0    0\n";
         assert_eq!(read(sheet), Some(Printed::Sheet));
-        // A fourth number changes nothing here.
-        let weighted = b"H    1    0    0    0\nW   -1    0    0  999\nZ    2    0    0    0\n";
-        assert_eq!(read(weighted), Some(Printed::Sheet));
     }
 
     /// No beginning of an output is whole, and neither is one from which a line is missing.

@@ -56,6 +56,12 @@ fn advice(refused: &Refused, refusal: &Refusal) -> String {
              second."
         }
         (Cause::BadCount, _, Some(spot)) => return count_advice(spot),
+        (Cause::BadWeight, Form::Sheet, _) => {
+            "The fourth number of W is the weight of the wish. Where all weigh the same it is 1."
+        }
+        (Cause::BadWeight, Form::Text, _) => {
+            "Change the number after 'weight', or leave both out: then the wish weighs 1."
+        }
         (Cause::NoPlan, ..) => {
             "Whatever the switches, some combination of faults breaks a rule; those listed show \
              it. Leave out or weaken a rule, or add a switch."
@@ -74,7 +80,7 @@ fn advice(refused: &Refused, refusal: &Refusal) -> String {
 fn length_advice(spot: &Spot) -> String {
     let (line, length, whole) = (spot.line, spot.bytes.len(), LINE - 1);
     format!(
-        "Characters on line {line}: {length}. A line has {whole}: a letter and three numbers of \
+        "Characters on line {line}: {length}. A line has {whole}: a letter and four numbers of \
          five columns."
     )
 }
@@ -83,10 +89,10 @@ fn length_advice(spot: &Spot) -> String {
 fn malformed_advice(column: usize) -> &'static str {
     match column {
         1 => "A line begins with one of the letters H, N, A, O, R, W and Z.",
-        LINE => "The line must end here: it has a letter and three numbers of five columns.",
+        LINE => "The line must end here: it has a letter and four numbers of five columns.",
         _ => {
-            "A number ends in the last of its five columns (6, 11 and 16) and has spaces before \
-             it. It has no plus and no leading zero, and there is no -0."
+            "A number ends in the last of its five columns (6, 11, 16 and 21) and has spaces \
+             before it. It has no plus and no leading zero, and there is no -0."
         }
     }
 }
@@ -105,11 +111,12 @@ fn illegal_advice(spot: &Spot) -> &'static str {
          most 32 deep. One space may stand between its parts, and none at its end. No number \
          begins with 0."
     } else if is_after(b"wish") {
-        "After 'wish' stand one to three literals, as s1 or !s2, with one space before each. No \
-         number begins with 0."
+        "After 'wish' stand one to three literals, as s1 or !s2, and then a weight, as weight 5, \
+         or nothing. One space stands before each. There is no s0, and no number has a leading \
+         zero."
     } else {
         "The lines are 'switches N', 'faults N', then each 'rule FORMULA', then each 'wish \
-         LITERALS'. One space stands after a keyword, and no number has a leading zero."
+         LITERALS' or 'wish LITERALS weight N'. One space stands after a keyword, and no number has a leading zero."
     }
 }
 
@@ -130,7 +137,7 @@ mod tests {
         for line in short.split(';') {
             let mut words = line.split_whitespace();
             bytes += words.next().expect("a letter");
-            for _ in 0..3 {
+            for _ in 0..4 {
                 bytes += &format!("{:>5}", words.next().unwrap_or("0"));
             }
             bytes += "\n";
@@ -141,11 +148,11 @@ mod tests {
     /// Sheets for every number and all of its advice, with some words of that.
     fn sheets() -> Vec<(u32, String, &'static str)> {
         let rules = "; R 1".repeat(65);
-        let short_line = "H    0    0    0\nZ    1    0  0\n".to_string();
+        let short_line = "H    0    0    0    0\nZ    1    0    0  0\n".to_string();
         vec![
             (1, String::new(), "It is empty"),
             (1, "H".repeat(SHEET_MAX + 1), "Leave something out."),
-            (1, short_line, "Characters on line 2: 14. A line has 16"),
+            (1, short_line, "Characters on line 2: 19. A line has 21"),
             (2, sheet("X"), "one of the letters"),
             (2, sheet("H 01"), "no leading zero"),
             (2, sheet("H").replace('\n', "0"), "The line must end here"),
@@ -154,6 +161,7 @@ mod tests {
             (5, sheet(&format!("H 1{rules}; Z 66")), "An A gate"),
             (6, sheet("H 1; N 2; Z 2"), "A gate names points before"),
             (7, sheet("H; Z 7"), "here 1."),
+            (14, sheet("H 1; W 1; Z 2"), "The fourth number of W"),
         ]
     }
 
@@ -175,6 +183,8 @@ mod tests {
             (12, after("wish s1\nrule s1\n"), "The lines are"),
             (12, after("rule s1  & s1\n"), "After 'rule'"),
             (12, after("wish s1 s1 s1 s1\n"), "After 'wish'"),
+            (12, after("wish s1 weight 10000\n"), "After 'wish'"),
+            (14, after("wish s1 weight 0\n"), "leave both out"),
         ]
     }
 
@@ -215,10 +225,10 @@ mod tests {
         assert_eq!(
             of(Form::Sheet, sheet("H 1; R 01; Z 2").as_bytes()),
             "box: number 2: line 2, column 5: no well-formed line begins like this\n    \
-             R   01    0    0\n        \
+             R   01    0    0    0\n        \
              ^ line 2, column 5\n  \
-             A number ends in the last of its five columns (6, 11 and 16) and has spaces before \
-             it. It has no plus and no leading zero, and there is no -0."
+             A number ends in the last of its five columns (6, 11, 16 and 21) and has spaces \
+             before it. It has no plus and no leading zero, and there is no -0."
         );
         // Of a text the byte's line and column, and hints in place of the advice.
         assert_eq!(
@@ -233,7 +243,7 @@ mod tests {
         assert_eq!(
             of(Form::Sheet, sheet("H; Z 7").as_bytes()),
             "box: number 7: line 2: the count of the lines before this one is wrong\n    \
-             Z    7    0    0\n  \
+             Z    7    0    0    0\n  \
              The first number of Z counts the lines before it: here 1."
         );
     }

@@ -7,7 +7,7 @@ use comzsered::{Cause, Refusal, SHEET_MAX};
 
 pub const LINE_FEED: u8 = b'\n';
 /// The bytes of a sheet's line, with its line feed.
-pub const LINE: usize = 17;
+pub const LINE: usize = 22;
 const PRINTABLE: RangeInclusive<u8> = b' '..=b'~';
 /// The bytes of a longer line that are shown.
 const WIDTH: usize = 72;
@@ -132,18 +132,21 @@ mod tests {
         (spot.line, spot.column, bytes, spot.is_ended)
     }
 
-    const SHEET: &str = "H    1    0    0\nR   01    0    0\nZ    2    0    0\n";
+    const SHEET: &str = "H    1    0    0    0\nR   01    0    0    0\nZ    2    0    0    0\n";
 
     #[test]
     fn of_a_line() {
         let malformed = spot(SHEET, 2, 2, 5).unwrap();
-        assert_eq!(parts(&malformed), (2, Some(5), "R   01    0    0", true));
+        assert_eq!(
+            parts(&malformed),
+            (2, Some(5), "R   01    0    0    0", true)
+        );
         assert_eq!(malformed.byte(), Some(b'0'));
         let count = spot(SHEET, 7, 3, 0).unwrap();
-        assert_eq!(parts(&count), (3, None, "Z    2    0    0", true));
+        assert_eq!(parts(&count), (3, None, "Z    2    0    0    0", true));
         assert_eq!(count.byte(), None);
-        assert_eq!(spot(SHEET, 2, 2, 17).unwrap().byte(), None);
-        assert_eq!(spot(SHEET, 2, 2, 18), None);
+        assert_eq!(spot(SHEET, 2, 2, LINE).unwrap().byte(), None);
+        assert_eq!(spot(SHEET, 2, 2, LINE + 1), None);
         assert_eq!(spot(SHEET, 8, 0, 0), None);
         assert_eq!(spot(SHEET, 12, 0, 0), None);
     }
@@ -178,16 +181,27 @@ mod tests {
         assert_eq!(odd(&too_long[..SHEET_MAX + 1]), None);
         let long_line = too_long.replacen("R ", "R  ", 1);
         assert_eq!(odd(&long_line).unwrap().line, 2);
-        let short = odd("H    1    0    0\nZ  1  0  0\n").unwrap();
-        assert_eq!(parts(&short), (2, Some(11), "Z  1  0  0", true));
-        let long = odd("H    1    0    0 \nZ    1    0    0\n").unwrap();
-        assert_eq!(parts(&long), (1, Some(17), "H    1    0    0 ", true));
-        let tab = odd("H    1\t0    0\n").unwrap();
-        assert_eq!(parts(&tab), (1, Some(7), "H    1\t0    0", true));
-        let not_ended = odd("H    1    0    0\nZ    1    0    0").unwrap();
-        assert_eq!(parts(&not_ended), (2, Some(17), "Z    1    0    0", false));
-        let blank = odd("H    1    0    0\nZ    1    0    0\n\n").unwrap();
+        let short = odd("H    1    0    0    0\nZ  1  0  0  0\n").unwrap();
+        assert_eq!(parts(&short), (2, Some(14), "Z  1  0  0  0", true));
+        let long = odd("H    1    0    0    0 \nZ    1    0    0    0\n").unwrap();
+        assert_eq!(
+            parts(&long),
+            (1, Some(LINE), "H    1    0    0    0 ", true)
+        );
+        let tab = odd("H    1\t0    0    0\n").unwrap();
+        assert_eq!(parts(&tab), (1, Some(7), "H    1\t0    0    0", true));
+        let not_ended = odd("H    1    0    0    0\nZ    1    0    0    0").unwrap();
+        assert_eq!(
+            parts(&not_ended),
+            (2, Some(LINE), "Z    1    0    0    0", false)
+        );
+        let blank = odd("H    1    0    0    0\nZ    1    0    0    0\n\n").unwrap();
         assert_eq!(parts(&blank), (3, Some(1), "", true));
+        let three_numbers = odd("H    1    0    0\nZ    1    0    0\n").unwrap();
+        assert_eq!(
+            parts(&three_numbers),
+            (1, Some(17), "H    1    0    0", true)
+        );
     }
 
     #[test]

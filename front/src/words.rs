@@ -13,7 +13,11 @@ pub fn said(listing: &Listing, tables: &Tables, form: Form) -> String {
         None => {
             let broken = broken_wishes(listing, tables, form);
             let (n, of) = (broken.len(), listing.wishes.len());
-            said += &format!("There is a plan. It breaks {n} of {of} wishes.\n");
+            said += &format!("There is a plan. It breaks {n} of {of} wishes");
+            if is_weighed(tables) {
+                said += &format!("; their weights add up to {}", listing.cost);
+            }
+            said += ".\n";
             said += &part("Switches", &switches(listing));
             said += &part("Broken wishes", &broken);
         }
@@ -50,12 +54,23 @@ fn switch(k: u32, on: bool) -> String {
     format!("switch {k} {state}")
 }
 
+/// Whether weights are worth a word: not all of them are 1.
+fn is_weighed(tables: &Tables) -> bool {
+    tables.wishes.iter().any(|wish| wish.weight != 1)
+}
+
 fn broken_wishes(listing: &Listing, tables: &Tables, form: Form) -> Vec<String> {
     let before = lines_before_wishes(tables, form);
+    let is_weighed = is_weighed(tables);
+    let weight = |wish: &Wish| is_weighed.then(|| format!(", weight {}", wish.weight));
+    let said = |k: usize, wish: &Wish| {
+        let (line, weight) = (before + k, weight(wish).unwrap_or_default());
+        format!("wish {k} (line {line}{weight}): {}", literals(wish))
+    };
     let numbered = (1..).zip(listing.wishes.iter().zip(&tables.wishes));
     numbered
         .filter(|(_, (&kept, _))| !kept)
-        .map(|(k, (_, wish))| format!("wish {k} (line {}): {}", before + k, literals(wish)))
+        .map(|(k, (_, wish))| said(k, wish))
         .collect()
 }
 
@@ -136,6 +151,32 @@ Combinations of faults, as the search listed them:
             let expected = [begin, &wishes, end].concat();
             assert_eq!(said(&listing, &tables(), form), expected);
         }
+    }
+
+    /// The cost is what the program printed.
+    #[test]
+    fn weights() {
+        let mut tables = tables();
+        let wishes = &mut tables.wishes;
+        wishes[0].weight = 999;
+        wishes[2].weight = 20;
+        let listing = Listing {
+            cost: 21,
+            switches: vec![true, false],
+            wishes: vec![true, false, false],
+            ..Listing::default()
+        };
+        let expected = "\
+There is a plan. It breaks 2 of 3 wishes; their weights add up to 21.
+Switches:
+  switch 1 on
+  switch 2 off
+Broken wishes:
+  wish 2 (line 9, weight 1): switch 2 off or switch 1 on or switch 1 off
+  wish 3 (line 10, weight 20): no switch, so that nothing keeps it
+Combinations of faults, as the search listed them: none
+";
+        assert_eq!(said(&listing, &tables, Form::Sheet), expected);
     }
 
     #[test]
