@@ -105,13 +105,14 @@ same "the binding lists other causes than it has" "$work/listed" "$work/found"
 
 heading "limits"
 
-# A constant of the code: a number, or the name of a limit.
+# A constant of the code: a number, the name of a limit, or a sum of these.
 constant() { # FILE NAME
-    value=$(sed -n "s/^\(pub \)\{0,1\}const $2: [a-z0-9]* = \([A-Z0-9_]*\);\$/\2/p" "crates/$1")
-    case $value in
-        [A-Z]*) limit "$value" ;;
-        *) echo "${value:-0}" | tr -d _ ;;
-    esac
+    sum=0
+    for term in $(sed -n "s/^\(pub \)\{0,1\}const $2: [a-z0-9]* = \([A-Z0-9_ +]*\);\$/\2/p" "crates/$1" | tr + ' '); do
+        case $term in [A-Z]*) term=$(limit "$term") ;; esac
+        sum=$((sum + $(echo "$term" | tr -d _)))
+    done
+    echo "$sum"
 }
 limit() { # NAME
     value=$(sed -n "s/^pub const $1: [a-z0-9]* = \([0-9_]*\);\$/\1/p" crates/words/src/limit.rt | tr -d _)
@@ -127,19 +128,23 @@ gates=$(limit MOST_GATES)
 rules=$(limit MOST_RULES)
 wishes=$(limit MOST_WISHES)
 literals=$(limit MOST_LITERALS)
+weight=$(limit MOST_WEIGHT)
 text=$(constant text/src/whole.rt MOST_TEXT)
 room=$(constant listing/src/whole.rt ROOM)
-fields=$(constant line/src/line.rt FIELD_COUNT)
+# The calls take sheets whose lines have weights.
+fields=$(constant line/src/line.rt WEIGHTED_FIELDS)
+row_fields=$(constant listing/src/row.rt ROW_FIELDS)
 columns=$(constant field/src/lib.rt FIELD_SIZE)
 counts=$(constant words/src/counts.rt COUNTS)
 gate_size=$(constant words/src/gate.rt GATE_SIZE)
 wish_size=$(constant words/src/wish.rt WISH_SIZE)
-# What follows from these. The rows of a listing have three numbers, whatever a sheet's lines have.
+# What follows from these.
 line_size=$((1 + fields * columns + 1))
 lines=$((gates + rules + wishes + 2))
 sheet=$((lines * line_size))
 list=$((1 << faults))
-row_size=$((1 + 3 * columns + 1))
+cost=$((wishes * weight))
+row_size=$((1 + row_fields * columns + 1))
 printed=$((switches + wishes + room + 2))
 listing=$((printed * row_size))
 words=$((counts + gates * gate_size + rules + wishes * wish_size))
@@ -154,6 +159,7 @@ GATES_MAX $gates
 RULES_MAX $rules
 WISHES_MAX $wishes
 LITERALS_MAX $literals
+WEIGHT_MAX $weight
 SHEET_MAX $sheet
 TEXT_MAX $text
 LIST_MAX $list
@@ -163,7 +169,7 @@ TABLES_WORDS $words
 END
 sed -n 's/^#define COMZSERED_\([A-Z_]*\) \([0-9]*\)$/\1 \2/p' "$header" | grep -v '^VERSION' >"$work/found"
 same "the header has other limits than the code" "$work/limits" "$work/found"
-sed -n 's/^pub const \([A-Z_]*\): usize = \([0-9_]*\);$/\1 \2/p' "$binding" | sed 's/_\([0-9]\)/\1/g' >"$work/found"
+sed -n 's/^pub const \([A-Z_]*\): [a-z0-9]* = \([0-9_]*\);$/\1 \2/p' "$binding" | sed 's/_\([0-9]\)/\1/g' >"$work/found"
 within "the binding has another limit than the code" "$work/found" "$work/limits"
 
 # A paper or a comment as one line, without what a comment begins with.
@@ -176,27 +182,37 @@ done <<END
 README.md|lines of $line_size bytes
 README.md|switches (0 to $switches) or of faults (0 to $faults)
 README.md|one gate ($gates), rule ($rules) or wish ($wishes) too many
+README.md|the weight of a wish is not 1 to $weight
+README.md|the column, 1 to $line_size, at which
 docs/FORMAT.md|lines of $line_size bytes
 docs/FORMAT.md|a switches, 0 to $switches, and f faults, 0 to $faults
 docs/FORMAT.md|mixed at will | 0 to $gates |
 docs/FORMAT.md|rules | \`R\` | 0 to $rules |
 docs/FORMAT.md|wishes | \`W\` | 0 to $wishes |
+docs/FORMAT.md|its weight is w, 1 to $weight
 docs/FORMAT.md|at most $lines lines, or $(commas $sheet) bytes
 docs/FORMAT.md|above $(commas $sheet), or is not a multiple of $line_size
 docs/FORMAT.md|$(commas $sheet) bytes are room enough
 docs/FORMAT.md|A text has at most $(commas "$text") bytes
 docs/FORMAT.md|at most $switches switches and $faults faults, $gates gates, $rules rules and $wishes wishes
+docs/FORMAT.md|weights from 1 to $weight
+docs/FORMAT.md|it is at most $(commas $cost)
+docs/FORMAT.md|the weight of a wish is not 1 to $weight
+docs/FORMAT.md|the smallest c, 1 to $line_size, such that
 docs/FORMAT.md|this line is gate $((gates + 1)), rule $((rules + 1)) or wish $((wishes + 1))
 docs/FORMAT.md|$(commas $words) words of 32 bits
 docs/FORMAT.md|$gates times $gate_size
 docs/FORMAT.md|$wishes times $wish_size
 docs/FORMAT.md|at most $(commas $((sheet + 1))) bytes of it
+docs/FORMAT.md|prints lines of $row_size bytes
 docs/FORMAT.md|K = $(commas "$room")
 docs/FORMAT.md|at most $(commas $((text + 1))) bytes
 $header|length is 0, above $(commas $sheet) or no multiple of $line_size
 $header|switches (0 to $switches) or of faults (0 to $faults)
 $header|gate $((gates + 1)), rule $((rules + 1)) or wish $((wishes + 1))
 $header|longer than $(commas "$text") bytes
+$header|the weight of a wish is not 1 to $weight
+$header|the smallest c from 1 to $line_size such that
 $header|of $(commas $words) words
 $header|$lines lines of $line_size bytes
 $header|at most 2^$faults patterns
@@ -207,10 +223,12 @@ $causes|above $(commas $sheet) or no multiple of $line_size
 $causes|switches (0 to $switches) or of faults (0 to $faults)
 $causes|One gate ($gates), rule ($rules) or wish ($wishes) too many
 $causes|longer than $(commas "$text") bytes
+$causes|The weight of a wish is not 1 to $weight
+$causes|The column, 1 to $line_size, at which
 END
 
 # And no number beyond a thousand but these.
-for n in $sheet $((sheet + 1)) "$text" $((text + 1)) "$list" $listing $printed $words "$room"; do commas "$n"; done >"$work/known"
+for n in $sheet $((sheet + 1)) "$text" $((text + 1)) "$list" $listing $printed $words "$room" $cost; do commas "$n"; done >"$work/known"
 for file in docs/FORMAT.md "$header" bindings/rust/src/*.rs; do
     grep -oE '[0-9]{1,3}(,[0-9]{3})+' "$file" | sort -u >"$work/found"
     [ ! -s "$work/found" ] || within "$file says a number that is no limit" "$work/found" "$work/known"

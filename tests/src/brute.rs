@@ -5,13 +5,16 @@
 
 use std::cell::Cell;
 
-use crate::oracle::{read, Refusal, Sheet, COLUMNS};
+use crate::oracle::{read, Refusal, Sheet, Wish, COLUMNS, MAX_WEIGHT, MAX_WISHES};
 
 // The numbers that the reader does not give.
 pub const NO_PLAN: u32 = 8;
 pub const NO_ROOM: u32 = 9;
 pub const BAD_PLAN: u32 = 10;
 pub const BAD_PATTERN: u32 = 11;
+
+/// The greatest cost: as many broken wishes as there may be, each of the largest weight.
+pub const MAX_COST: u32 = MAX_WISHES as u32 * MAX_WEIGHT;
 
 /// The words that the program lends for the list.
 pub const PROGRAM_ROOM: usize = 4_096;
@@ -126,7 +129,7 @@ impl Planner {
         self.method.first_failed(plan)
     }
 
-    pub fn keeps(&self, plan: u32, wish: &[i32]) -> bool {
+    pub fn keeps(&self, plan: u32, wish: &Wish) -> bool {
         self.sheet.keeps(plan, wish)
     }
 
@@ -215,6 +218,13 @@ impl Planner {
             pattern: failed.unwrap_or(0),
             ..Rated::default()
         }
+    }
+
+    /// Whether another plan than this answer would be the best sound one if all wishes weighed the same.
+    pub fn weights_decide(&self, answer: u32) -> bool {
+        let by_count = |plan: u32| (self.sheet.broken(plan).count(), plan);
+        let mut better = (0..self.plans()).filter(|&plan| by_count(plan) < by_count(answer));
+        better.any(|plan| self.first_failed(plan).is_none())
     }
 
     /// What the program prints, from a run whose limit was at least the program's room.
@@ -323,15 +333,21 @@ pub fn ranked(sheet: &Sheet) -> Vec<u32> {
 
 impl Sheet {
     /// Whether a wish is kept: at least one of its literals holds.
-    pub fn keeps(&self, plan: u32, wish: &[i32]) -> bool {
+    pub fn keeps(&self, plan: u32, wish: &Wish) -> bool {
         let on = |literal: &i32| digit(plan, self.switches, literal.unsigned_abs());
-        wish.iter().any(|literal| on(literal) == (*literal > 0))
+        let mut literals = wish.literals.iter();
+        literals.any(|literal| on(literal) == (*literal > 0))
     }
 
     /// The broken wishes, each as often as it is written.
+    fn broken(&self, plan: u32) -> impl Iterator<Item = &Wish> {
+        let wishes = self.wishes.iter();
+        wishes.filter(move |wish| !self.keeps(plan, wish))
+    }
+
+    /// What the broken wishes weigh together.
     pub fn cost(&self, plan: u32) -> u32 {
-        let broken = self.wishes.iter().filter(|wish| !self.keeps(plan, wish));
-        broken.count() as u32
+        self.broken(plan).map(|wish| wish.weight).sum()
     }
 }
 
@@ -378,6 +394,8 @@ mod tests {
     use crate::SAMPLE_LISTING;
 
     const E3: &str = "H 2 2; O 1 2; O 3 4; O 5 6; R 7; W -1; W -2; Z 7";
+    /// The same with weights.
+    const EXAMPLE_1: &str = "H 2 2; O 1 2; O 3 4; O 5 6; R 7; W -1 0 0 2; W -2 0 0 3; Z 7";
     const E4: &str = "H 0 1; R 1; Z 2";
     const E7: &str = "H 1 1; N 1; N 2; A 1 2; A 3 4; O 5 6; R 7; Z 7";
 
@@ -446,6 +464,15 @@ mod tests {
         assert_eq!(answer(E3, 1), plan(1, 1, &[0]));
         assert_eq!(answer(E3, 0), no_room(&[]));
         assert_eq!(listing(&sheet(E3)), SAMPLE_LISTING);
+    }
+
+    #[test]
+    fn example_1_with_weights() {
+        assert_eq!(answer(EXAMPLE_1, 9), plan(2, 2, &[0]));
+        let weighted = planner(EXAMPLE_1);
+        assert_eq!([0, 1, 2, 3].map(|p| weighted.cost(p)), [0, 3, 2, 5]);
+        assert!(weighted.weights_decide(2));
+        assert!(!planner(E3).weights_decide(1));
     }
 
     #[test]
@@ -562,10 +589,33 @@ mod tests {
         assert_eq!([0, 1].map(|p| never_broken.cost(p)), [0, 1]);
     }
 
+    /// Each time with the weight that stands there.
+    #[test]
+    fn repeated_wishes_with_other_weights() {
+        let repeats = planner("H 1 0; W -1 0 0 5; W -1 0 0 999; W -1 -1 0 20; W 1 0 0 3; W; Z 6");
+        assert_eq!([0, 1].map(|p| repeats.cost(p)), [4, 1_025]);
+    }
+
+    #[test]
+    fn the_greatest_cost() {
+        let short = format!("H 1 0; R 1; {}Z 66", "W -1 0 0 999; ".repeat(64));
+        assert_eq!(MAX_COST, 63_936);
+        assert_eq!(answer(&short, 1), plan(1, MAX_COST, &[0]));
+        assert!(listing(&sheet(&short)).starts_with("A    0    063936\n"));
+    }
+
+    #[test]
+    fn a_wrong_weight() {
+        let short = "H 1 0; W 1 0 0 1000; Z 2";
+        assert_eq!(read(&sheet(short)), refused(14, 2));
+        let printed = "A   14    2    0\nZ    1    0    0\n";
+        assert_eq!(listing(&sheet(short)), printed);
+    }
+
     /// Every job passes the column on.
     #[test]
     fn the_column_of_a_malformed_line() {
-        let bytes = b"H    1    0    0\nR    -    0    0\nZ    2    0    0\n";
+        let bytes = b"H    1    0    0    0\nR    -    0    0    0\nZ    2    0    0    0\n";
         let refusal = read(bytes).unwrap_err();
         let found = Found {
             number: 2,

@@ -3,7 +3,7 @@
 
 use crate::oracle::{
     COLUMNS, FIELDS, LINE, LITERALS, MAX_BYTES, MAX_FAULTS, MAX_GATES, MAX_LINES, MAX_NUMBER,
-    MAX_RULES, MAX_SWITCHES, MAX_WISHES, MIN_NUMBER,
+    MAX_RULES, MAX_SWITCHES, MAX_WEIGHT, MAX_WISHES, MIN_NUMBER, WEIGHT,
 };
 
 /// The letters that begin the lines of a sheet.
@@ -88,10 +88,18 @@ pub(crate) struct Row {
 }
 
 impl Row {
+    /// Numbers left out are 0, but the weight of a wish is 1.
     pub(crate) fn new(letter: u8, used: &[i32]) -> Row {
         let mut fields = [0; FIELDS];
+        fields[WEIGHT] = i32::from(letter == b'W');
         fields[..used.len()].copy_from_slice(used);
         Row { letter, fields }
+    }
+
+    pub(crate) fn wish(literals: &[i32], weight: i32) -> Row {
+        let mut row = Row::new(b'W', literals);
+        row.fields[WEIGHT] = weight;
+        row
     }
 
     pub(crate) fn written(&self) -> Vec<u8> {
@@ -104,7 +112,8 @@ impl Row {
     }
 }
 
-/// The bytes of a sheet that is written short, as "H 1 0; O 1 1; Z 2": numbers left out are 0.
+/// The bytes of a sheet that is written short, as "H 1 0; W 1; Z 2": numbers left out are 0, but the weight
+/// of a wish is 1.
 pub fn sheet(short: &str) -> Vec<u8> {
     let mut bytes = Vec::new();
     for row in short.split(';') {
@@ -204,7 +213,19 @@ fn literal(r: &mut Random, switches: i32) -> i32 {
     }
 }
 
-/// A wish: any, empty, never broken, with a literal twice, or an earlier one again.
+/// A weight that a wish may have, the least and the largest more often than the others.
+pub(crate) fn weight(r: &mut Random) -> i32 {
+    let most = MAX_WEIGHT as i32;
+    match r.below(5) {
+        0 => 1,
+        1 => most,
+        2 => r.between(1, 12),
+        _ => r.between(1, most),
+    }
+}
+
+/// A wish: any, empty, never broken, with a literal twice, or an earlier one again, with the same weight or
+/// another.
 fn wish(r: &mut Random, switches: i32, earlier: &[Row]) -> Row {
     if !earlier.is_empty() && r.one_in(5) {
         let mut row = r.pick(earlier);
@@ -215,12 +236,13 @@ fn wish(r: &mut Random, switches: i32, earlier: &[Row]) -> Row {
         if used > 1 && r.one_in(2) {
             row.fields[..used].reverse();
         }
+        if r.one_in(2) {
+            row.fields[WEIGHT] = weight(r);
+        }
         return row;
     }
-    if switches == 0 {
-        return Row::new(b'W', &[]);
-    }
-    let mut literals: Vec<i32> = (0..r.below(LITERALS + 1))
+    let most = if switches == 0 { 0 } else { LITERALS };
+    let mut literals: Vec<i32> = (0..r.below(most + 1))
         .map(|_| literal(r, switches))
         .collect();
     let used = literals.len();
@@ -231,7 +253,7 @@ fn wish(r: &mut Random, switches: i32, earlier: &[Row]) -> Row {
             _ => {}
         }
     }
-    Row::new(b'W', &literals)
+    Row::wish(&literals, weight(r))
 }
 
 /// A sheet with these counts, right in everything but perhaps the counts. Without any switch or
@@ -320,6 +342,7 @@ fn telling_number(r: &mut Random, rows: &[Row], at: usize, field: usize) -> i32 
         (b'H', 1) => &[MAX_FAULTS, MAX_FAULTS + 1, MAX_FAULTS + 16, -MAX_FAULTS],
         (b'N' | b'A' | b'O', _) => &[own, own - 1, own + 1, points, points + 1, 0, -own],
         (b'R', _) => &[points, points + 1, own, 0, -points, 1],
+        (b'W', WEIGHT) => WEIGHTS_AROUND,
         (b'W', _) => &[switches, switches + 1, -switches, -switches - 1, 0, 1, -1],
         _ => &[at as i32, at as i32 + 1, at as i32 - 1, -(at as i32), 0, 1],
     };
@@ -331,12 +354,31 @@ fn telling_number(r: &mut Random, rows: &[Row], at: usize, field: usize) -> i32 
     n.clamp(MIN_NUMBER, MAX_NUMBER)
 }
 
+/// Weights at the ends of what is allowed, and beyond.
+const WEIGHTS_AROUND: &[i32] = &[
+    0,
+    1,
+    -1,
+    MAX_WEIGHT as i32,
+    MAX_WEIGHT as i32 + 1,
+    -(MAX_WEIGHT as i32),
+    MAX_NUMBER,
+    MIN_NUMBER,
+];
+
+fn damage_weight(r: &mut Random, rows: &mut [Row], at: usize) {
+    rows[at].fields[WEIGHT] = telling_number(r, rows, at, WEIGHT);
+}
+
 fn damage_number(r: &mut Random, rows: &mut [Row], at: usize) {
     if rows[at].letter == b'W' && r.one_in(3) {
-        // A literal after a 0.
+        // A literal after a 0, and perhaps a wrong weight besides.
         let l = rows[0].fields[0].clamp(1, 99);
         let shapes = [[0, l, 0], [0, 0, l], [l, 0, -l], [0, -l, l], [0, l + 1, 0]];
         rows[at].fields[..LITERALS].copy_from_slice(&r.pick(&shapes));
+        if r.one_in(4) {
+            damage_weight(r, rows, at);
+        }
         return;
     }
     let field = r.below(FIELDS);
@@ -398,6 +440,7 @@ fn damage_order(r: &mut Random, rows: &mut Vec<Row>) {
                 Row::new(b'R', &[1]),
                 Row::new(b'W', &[1]),
                 Row::new(b'W', &[]),
+                Row::wish(&[], 0),
             ]);
             rows.insert(other.max(1), extra);
         }
@@ -459,7 +502,8 @@ const FIELD_TEXTS: &[&[u8; COLUMNS]] = &[
     b"  1.0", b"  0x1", b"  1,0", b"    x", b"    O", b"    l", b"0    ", b"-1   ", b"9999-",
     b"\t   1", b"   1\t", b"   1\n", b"\n   1", b"   1\r", b"   1\0", b"\0   1", b"   \xa01",
     b"  \xd9\xa11", b"   \xb1 ",
-    b"    0", b"    1", b"   -1", b"   10", b"  100", b"99999", b"-9999", b"10000", b"-1000",
+    b"    0", b"    1", b"   -1", b"   10", b"  100", b"  999", b" 1000", b"99999", b"-9999",
+    b"10000", b"-1000",
 ];
 
 /// The number of a field written in some way that a careless reader might take.
@@ -631,6 +675,35 @@ fn of_length(r: &mut Random) -> Vec<u8> {
     bytes
 }
 
+// ---- lines without a fourth number
+
+/// The bytes of such a line.
+pub(crate) const SHORT_LINE: usize = LINE - COLUMNS;
+
+/// A sheet without its fourth numbers.
+pub fn without_fourth_numbers(bytes: &[u8]) -> Vec<u8> {
+    let short = |line: &[u8]| [&line[..SHORT_LINE - 1], b"\n"].concat();
+    bytes.chunks(LINE).flat_map(short).collect()
+}
+
+/// The sheet without its fourth numbers, half of the time with so many lines that its length is right all the
+/// same.
+fn of_short_lines(r: &mut Random, mut rows: Vec<Row>) -> Vec<u8> {
+    if r.one_in(2) {
+        let lines = rows.len().next_multiple_of(LINE);
+        let at = rows.len() - 1;
+        rows.splice(at..at, vec![Row::new(b'W', &[]); lines - rows.len()]);
+        mend_count(&mut rows);
+    }
+    without_fourth_numbers(&written(&rows).concat())
+}
+
+/// Whether these are lines without a fourth number.
+pub fn has_short_lines(bytes: &[u8]) -> bool {
+    let mut lines = bytes.chunks(SHORT_LINE);
+    !bytes.is_empty() && lines.all(|line| line.get(SHORT_LINE - 1) == Some(&b'\n'))
+}
+
 // ---- putting it together
 
 pub(crate) fn written(rows: &[Row]) -> Vec<Vec<u8>> {
@@ -641,9 +714,10 @@ pub(crate) fn written(rows: &[Row]) -> Vec<Vec<u8>> {
 fn pile_on_line(r: &mut Random, rows: &mut [Row], at: usize, damages: usize) -> Vec<Vec<u8>> {
     let mut text = 0;
     for _ in 0..damages {
-        match r.below(4) {
+        match r.below(5) {
             0 => text += 1,
             1 => rows[at].letter = r.pick(LETTERS),
+            2 => damage_weight(r, rows, at),
             _ => damage_number(r, rows, at),
         }
     }
@@ -655,7 +729,7 @@ fn pile_on_line(r: &mut Random, rows: &mut [Row], at: usize, damages: usize) -> 
 }
 
 /// What a string is made by, one after another by its index, so that each comes equally often.
-pub const RECIPES: [&str; 17] = [
+pub const RECIPES: [&str; 19] = [
     "valid",
     "valid, one number damaged on the H line",
     "one number",
@@ -673,11 +747,13 @@ pub const RECIPES: [&str; 17] = [
     "noise",
     "length",
     "columns of one line",
+    "one weight",
+    "no fourth numbers",
 ];
 
 /// The recipes that begin from a whole sheet, undamaged ones left out. That of the columns stands
 /// here twice, as there are many columns.
-pub(crate) const DAMAGES: [usize; 13] = [1, 2, 3, 4, 5, 6, 7, 10, 11, 12, 13, 16, 16];
+pub(crate) const DAMAGES: [usize; 15] = [1, 2, 3, 4, 5, 6, 7, 10, 11, 12, 13, 16, 16, 17, 18];
 
 /// The byte string of this seed and index.
 pub fn string(seed: u64, index: u64) -> Vec<u8> {
@@ -788,6 +864,23 @@ pub(crate) fn damaged(r: &mut Random, recipe: usize, mut rows: Vec<Row>) -> Vec<
             }
             lines.concat()
         }
+        17 => {
+            let wishes: Vec<usize> = (0..rows.len())
+                .filter(|&at| rows[at].letter == b'W')
+                .collect();
+            let at = match wishes[..] {
+                [] => {
+                    let end = rows.len() - 1;
+                    rows.insert(end, Row::new(b'W', &[]));
+                    mend_count(&mut rows);
+                    end
+                }
+                _ => wishes[r.place(wishes.len())],
+            };
+            damage_weight(r, &mut rows, at);
+            written(&rows).concat()
+        }
+        18 => of_short_lines(r, rows),
         _ => written(&rows).concat(),
     }
 }
@@ -795,7 +888,7 @@ pub(crate) fn damaged(r: &mut Random, recipe: usize, mut rows: Vec<Row>) -> Vec<
 #[cfg(test)]
 mod tests {
     use super::*;
-    use crate::oracle::{read, MALFORMED, TOO_MANY};
+    use crate::oracle::{read, split, Wish, BAD_LENGTH, BAD_WEIGHT, MALFORMED, TOO_MANY};
     use std::collections::BTreeSet;
 
     #[test]
@@ -818,13 +911,49 @@ mod tests {
     #[test]
     fn every_column_is_reached() {
         let mut columns = [0; LINE];
-        for index in 0..8_000 {
+        for index in 0..12_000 {
             match read(&string(1, index)) {
                 Err(refusal) if refusal.number == MALFORMED => columns[refusal.column - 1] += 1,
                 _ => {}
             }
         }
         assert!(columns.iter().all(|&n| n >= 25), "{columns:?}");
+    }
+
+    /// Wrong weights of every kind come, and lines without a fourth number.
+    #[test]
+    fn weights_and_short_lines() {
+        let mut wrong = [0; 4];
+        let mut short = [0; 2];
+        for index in 0..12_000 {
+            let bytes = string(1, index);
+            let Err(refusal) = read(&bytes) else {
+                continue;
+            };
+            if refusal.number == BAD_WEIGHT {
+                let line = &bytes[(refusal.place - 1) * LINE..refusal.place * LINE];
+                let (_, _, fields) = split(line).expect("a well-formed line");
+                let kinds = [
+                    fields[WEIGHT] == 0,
+                    fields[WEIGHT] < 0,
+                    fields[WEIGHT] == MAX_WEIGHT as i32 + 1,
+                    fields[WEIGHT] == MAX_NUMBER,
+                ];
+                for (count, is_it) in wrong.iter_mut().zip(kinds) {
+                    *count += usize::from(is_it);
+                }
+            }
+            if has_short_lines(&bytes) {
+                let at_the_line_feed = (MALFORMED, 1, SHORT_LINE);
+                match (refusal.number, refusal.place, refusal.column) {
+                    (BAD_LENGTH, _, _) => short[0] += 1,
+                    stopped if stopped == at_the_line_feed => short[1] += 1,
+                    other => panic!("index {index}: {other:?}"),
+                }
+            }
+        }
+        assert!(wrong.iter().all(|&n| n >= 40), "{wrong:?}");
+        assert!(short.iter().all(|&n| n >= 100), "{short:?}");
     }
 
     /// The sheets that the comparison relies on do come, within the strings of one seed.
@@ -834,7 +963,7 @@ mod tests {
         let mut exact = [0; 3];
         let mut too_many = BTreeSet::new();
         let mut lengths = BTreeSet::new();
-        let mut kinds_of_wish = [0; 4];
+        let mut kinds_of_wish = [0; 6];
         for index in 0..8_000 {
             let bytes = string(1, index);
             lengths.insert(bytes.len());
@@ -844,11 +973,20 @@ mod tests {
                     exact[0] += usize::from(sheet.gates.len() == MAX_GATES);
                     exact[1] += usize::from(sheet.rules.len() == MAX_RULES);
                     exact[2] += usize::from(sheet.wishes.len() == MAX_WISHES);
-                    for (k, wish) in sheet.wishes.iter().enumerate() {
-                        kinds_of_wish[0] += usize::from(wish.is_empty());
-                        kinds_of_wish[1] += usize::from(wish.iter().any(|l| wish.contains(&-l)));
-                        kinds_of_wish[2] += usize::from(sheet.wishes[..k].contains(wish));
-                        kinds_of_wish[3] += usize::from(wish.len() == LITERALS);
+                    for (k, Wish { literals, weight }) in sheet.wishes.iter().enumerate() {
+                        let same = |earlier: &Wish| earlier.literals == *literals;
+                        let earlier = sheet.wishes[..k].iter().find(|wish| same(wish));
+                        let kinds = [
+                            literals.is_empty(),
+                            literals.iter().any(|l| literals.contains(&-l)),
+                            earlier.is_some_and(|earlier| earlier.weight == *weight),
+                            earlier.is_some_and(|earlier| earlier.weight != *weight),
+                            literals.len() == LITERALS,
+                            *weight == MAX_WEIGHT,
+                        ];
+                        for (count, is_it) in kinds_of_wish.iter_mut().zip(kinds) {
+                            *count += usize::from(is_it);
+                        }
                     }
                 }
                 Err(refusal) if refusal.number == TOO_MANY => {

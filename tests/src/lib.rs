@@ -25,14 +25,14 @@ pub mod writing;
 
 /// The sample sheet of docs/FORMAT.md.
 pub const SAMPLE: &str = "\
-H    2    2    0
-O    1    2    0
-O    3    4    0
-O    5    6    0
-R    7    0    0
-W   -1    0    0
-W   -2    0    0
-Z    7    0    0
+H    2    2    0    0
+O    1    2    0    0
+O    3    4    0    0
+O    5    6    0    0
+R    7    0    0    0
+W   -1    0    0    1
+W   -2    0    0    1
+Z    7    0    0    0
 ";
 
 /// What the program prints for it.

@@ -2,16 +2,19 @@
 //! The proved reader is compared with it, so it shares no code and no method with that one.
 
 use std::collections::HashSet;
+use std::ops::RangeInclusive;
 use std::sync::OnceLock;
 
 /// Numbers on a line.
-pub const FIELDS: usize = 3;
+pub const FIELDS: usize = 4;
 /// Columns of a number.
 pub const COLUMNS: usize = 5;
 /// Bytes of a line: the letter, the numbers and the line feed.
 pub const LINE: usize = 1 + FIELDS * COLUMNS + 1;
 /// Literals of a wish at most; they stand in the first fields of its line.
 pub const LITERALS: usize = 3;
+/// The field of a wish's weight, after those of its literals.
+pub const WEIGHT: usize = LITERALS;
 
 pub const MAX_SWITCHES: i32 = 20;
 pub const MAX_FAULTS: i32 = 16;
@@ -21,6 +24,9 @@ pub const MAX_WISHES: usize = 64;
 /// One H line, the gates, the rules, the wishes and one Z line.
 pub const MAX_LINES: usize = 1 + MAX_GATES + MAX_RULES + MAX_WISHES + 1;
 pub const MAX_BYTES: usize = MAX_LINES * LINE;
+/// What a wish may weigh.
+pub const MAX_WEIGHT: u32 = 999;
+pub const WEIGHTS: RangeInclusive<u32> = 1..=MAX_WEIGHT;
 
 /// The smallest and the largest number that a field can hold.
 pub const MIN_NUMBER: i32 = -9_999;
@@ -34,6 +40,7 @@ pub const BAD_SIZE: u32 = 4;
 pub const TOO_MANY: u32 = 5;
 pub const BAD_FIELD: u32 = 6;
 pub const WRONG_COUNT: u32 = 7;
+pub const BAD_WEIGHT: u32 = 14;
 
 /// Why a sheet is turned down, at which line, counted from 1 (0 if at none), and at which column of
 /// a malformed line, counted from 1 (0 after any other number).
@@ -52,14 +59,20 @@ pub struct Gate {
     pub right: u32,
 }
 
-/// A wish holds its literals alone, without the zeros that fill its line up.
+/// A wish has its literals alone, without the zeros that fill its line up.
+#[derive(Clone, Debug, PartialEq, Eq)]
+pub struct Wish {
+    pub literals: Vec<i32>,
+    pub weight: u32,
+}
+
 #[derive(Clone, Debug, Default, PartialEq, Eq)]
 pub struct Sheet {
     pub switches: u32,
     pub faults: u32,
     pub gates: Vec<Gate>,
     pub rules: Vec<u32>,
-    pub wishes: Vec<Vec<i32>>,
+    pub wishes: Vec<Wish>,
 }
 
 impl Sheet {
@@ -109,6 +122,9 @@ pub fn read(bytes: &[u8]) -> Result<Sheet, Refusal> {
         }
         if !fields_allowed(&sheet, letter, &fields) {
             return refuse(BAD_FIELD);
+        }
+        if letter == b'W' && !weight_allowed(fields[WEIGHT]) {
+            return refuse(BAD_WEIGHT);
         }
         if letter == b'Z' && fields[0] != before as i32 {
             return refuse(WRONG_COUNT);
@@ -214,7 +230,7 @@ fn fields_allowed(sheet: &Sheet, letter: u8, fields: &[i32; FIELDS]) -> bool {
         b'H' => unused_from(2),
         b'N' | b'R' => is_point(fields[0]) && unused_from(1),
         b'A' | b'O' => is_point(fields[0]) && is_point(fields[1]) && unused_from(2),
-        b'W' => literals_allowed(sheet, &fields[..LITERALS]) && unused_from(LITERALS),
+        b'W' => literals_allowed(sheet, &fields[..LITERALS]),
         _ => unused_from(1),
     }
 }
@@ -223,6 +239,10 @@ fn fields_allowed(sheet: &Sheet, letter: u8, fields: &[i32; FIELDS]) -> bool {
 fn literals_allowed(sheet: &Sheet, literals: &[i32]) -> bool {
     let zero_then_literal = literals.windows(2).any(|w| w[0] == 0 && w[1] != 0);
     !zero_then_literal && literals.iter().all(|l| l.unsigned_abs() <= sheet.switches)
+}
+
+fn weight_allowed(number: i32) -> bool {
+    u32::try_from(number).is_ok_and(|weight| WEIGHTS.contains(&weight))
 }
 
 /// Adds a line that has passed every test.
@@ -245,7 +265,10 @@ fn take(sheet: &mut Sheet, letter: u8, fields: &[i32; FIELDS]) {
         b'R' => sheet.rules.push(fields[0] as u32),
         b'W' => {
             let used = fields[..LITERALS].iter().copied().filter(|&l| l != 0);
-            sheet.wishes.push(used.collect());
+            sheet.wishes.push(Wish {
+                literals: used.collect(),
+                weight: fields[WEIGHT] as u32,
+            });
         }
         _ => {}
     }
@@ -254,7 +277,7 @@ fn take(sheet: &mut Sheet, letter: u8, fields: &[i32; FIELDS]) {
 #[cfg(test)]
 mod tests {
     use super::*;
-    use crate::generate::sheet;
+    use crate::generate::{sheet, without_fourth_numbers};
     use crate::malformed::{LINES_AROUND, MALFORMED_LINES};
     use crate::SAMPLE;
 
@@ -278,6 +301,11 @@ mod tests {
         Gate { kind, left, right }
     }
 
+    fn wish(literals: &[i32], weight: u32) -> Wish {
+        let literals = literals.to_vec();
+        Wish { literals, weight }
+    }
+
     #[test]
     fn e1_empty() {
         assert_eq!(refused(b""), (BAD_LENGTH, 0));
@@ -290,7 +318,7 @@ mod tests {
 
     #[test]
     fn e3_sample() {
-        assert_eq!(SAMPLE.len(), 136);
+        assert_eq!(SAMPLE.len(), 176);
         assert_eq!(
             sheet("H 2 2; O 1 2; O 3 4; O 5 6; R 7; W -1; W -2; Z 7"),
             SAMPLE.as_bytes()
@@ -300,7 +328,7 @@ mod tests {
             faults: 2,
             gates: vec![gate(b'O', 1, 2), gate(b'O', 3, 4), gate(b'O', 5, 6)],
             rules: vec![7],
-            wishes: vec![vec![-1], vec![-2]],
+            wishes: vec![wish(&[-1], 1), wish(&[-2], 1)],
         };
         assert_eq!(read(SAMPLE.as_bytes()), Ok(tables));
     }
@@ -321,10 +349,7 @@ mod tests {
 
     #[test]
     fn e9_empty_wish() {
-        assert_eq!(
-            read(&sheet("H; W; Z 2")).unwrap().wishes,
-            [Vec::<i32>::new()]
-        );
+        assert_eq!(read(&sheet("H; W; Z 2")).unwrap().wishes, [wish(&[], 1)]);
     }
 
     #[test]
@@ -358,9 +383,9 @@ mod tests {
         assert_eq!(refused(&small[..LINE]), (WRONG_LETTER, 1));
 
         let full = full_sheet(MAX_GATES, MAX_RULES, MAX_WISHES);
-        assert_eq!((full.len(), MAX_BYTES), (9_010, 9_010));
+        assert_eq!((full.len(), MAX_BYTES), (11_660, 11_660));
         assert_eq!(refused(&full), (0, 0));
-        assert_eq!(refused(&full[..9_009]), (BAD_LENGTH, 0));
+        assert_eq!(refused(&full[..11_659]), (BAD_LENGTH, 0));
         assert_eq!(refused(&[&full[..], b"\n"].concat()), (BAD_LENGTH, 0));
         assert_eq!(
             refused(&[&full[..], &full[..LINE]].concat()),
@@ -412,19 +437,23 @@ mod tests {
     fn points_literals_and_unused_fields() {
         for (short, line) in [
             ("H 1 1 1; Z 1", 1),
+            ("H 1 1 0 1; Z 1", 1),
             ("H 1 1; N 3; Z 2", 2),
             ("H 1 1; N 0; Z 2", 2),
             ("H 1 1; N -1; Z 2", 2),
             ("H 1 1; N 1 1; Z 2", 2),
             ("H 1 1; N 1 0 1; Z 2", 2),
+            ("H 1 1; N 1 0 0 1; Z 2", 2),
             ("H 1 1; A 1 0; Z 2", 2),
             ("H 1 1; A 0 1; Z 2", 2),
             ("H 1 1; A 1 2 1; Z 2", 2),
+            ("H 1 1; O 1 2 0 -1; Z 2", 2),
             ("H 1 1; N 1; O 3 4; Z 3", 3),
             ("H 1 1; N 1; R 4; Z 3", 3),
             ("H 1 1; R 0; Z 2", 2),
             ("H 1 1; R 1 1; Z 2", 2),
             ("H 1 1; R 1 0 1; Z 2", 2),
+            ("H 1 1; R 1 0 0 999; Z 2", 2),
             ("H 1 1; W 2; Z 2", 2),
             ("H 1 1; W 1 -2; Z 2", 2),
             ("H 1 1; W 0 0 1; Z 2", 2),
@@ -434,6 +463,7 @@ mod tests {
             ("H; R 1; Z 2", 2),
             ("H; Z 1 1", 2),
             ("H; Z 1 0 1", 2),
+            ("H; Z 1 0 0 1", 2),
         ] {
             assert_eq!(outcome(short), (BAD_FIELD, line), "{short}");
         }
@@ -444,16 +474,57 @@ mod tests {
     }
 
     #[test]
+    fn weights() {
+        let read = read(&sheet("H 2 0; W 1 0 0 999; W -2 1 0 20; W; W 1 2 1 1; Z 5")).unwrap();
+        let wishes = [
+            wish(&[1], 999),
+            wish(&[-2, 1], 20),
+            wish(&[], 1),
+            wish(&[1, 2, 1], 1),
+        ];
+        assert_eq!(read.wishes, wishes);
+        for weight in [0, -1, -999, -9_999, 1_000, 1_001, 9_999, 10_000, 99_999] {
+            let short = format!("H 1 0; W 1; W -1 0 0 {weight}; Z 3");
+            assert_eq!(outcome(&short), (BAD_WEIGHT, 3), "{weight}");
+        }
+    }
+
+    /// A sheet without the fourth numbers, whose lines have 17 bytes.
+    #[test]
+    fn lines_of_three_numbers() {
+        let at_the_line_feed = Refusal {
+            number: MALFORMED,
+            place: 1,
+            column: 17,
+        };
+        for lines in 2..=66 {
+            let wishes = "W 1; ".repeat(lines - 2);
+            let whole = sheet(&format!("H 2 1; {wishes} Z {}", lines - 1));
+            let short = without_fourth_numbers(&whole);
+            match lines % LINE {
+                0 => assert_eq!(read(&short), Err(at_the_line_feed)),
+                _ => assert_eq!(refused(&short), (BAD_LENGTH, 0)),
+            }
+        }
+    }
+
+    #[test]
     fn order_of_causes() {
-        // Within a line: 2 before 3 before 4 before 5 before 6 before 7.
+        // Within a line: 2 before 3 before 4 before 5 before 6 before 7 and 14.
         assert_eq!(
-            refused(b"W    1    2   03\nZ    1    0    0\n"),
+            refused(b"W    1    2   03    0\nZ    1    0    0    0\n"),
             (MALFORMED, 1)
         );
         assert_eq!(
-            refused(b"H   21    2    0\rZ    1    0    0\n"),
+            refused(b"H   21    2    0    0\rZ    1    0    0    0\n"),
             (MALFORMED, 1)
         );
+        assert_eq!(outcome("W 1 0 0 0; Z 1"), (WRONG_LETTER, 1));
+        assert_eq!(outcome("H 1 0; W 1 0 0 0; R 1; Z 3"), (BAD_WEIGHT, 2));
+        assert_eq!(outcome("H 1 0; W 2 0 0 0; Z 2"), (BAD_FIELD, 2));
+        assert_eq!(outcome("H 1 0; W 0 1 0 1000; Z 2"), (BAD_FIELD, 2));
+        assert_eq!(outcome("H 1 0; W 1 0 0 0; W 2; Z 9"), (BAD_WEIGHT, 2));
+        assert_eq!(outcome("H 1 0; W 2; W 1 0 0 0; Z 9"), (BAD_FIELD, 2));
         assert_eq!(outcome("H 21 17 1"), (WRONG_LETTER, 1));
         assert_eq!(outcome("H 21 0 1; Z 1"), (BAD_SIZE, 1));
         assert_eq!(outcome("H 1 0; R 9; N 9; Z 9"), (BAD_FIELD, 2));
@@ -474,6 +545,11 @@ mod tests {
         assert_eq!(
             outcome(&format!("H 2 0; {gates} A 1 1")),
             (WRONG_LETTER, 402)
+        );
+        let wishes = "W 1; ".repeat(64);
+        assert_eq!(
+            outcome(&format!("H 1 0; {wishes} W 9 0 0 0; Z 0")),
+            (TOO_MANY, 66)
         );
         // An earlier line comes first, whatever its number.
         assert_eq!(outcome("H 1 0; W 2; H; Z 9"), (BAD_FIELD, 2));
@@ -547,7 +623,7 @@ mod tests {
             return split(text).is_some();
         }
         let missing = (LINE - 1 - text.len()) % COLUMNS;
-        let mut line = [text, &b"H    0    0    0\n"[text.len()..]].concat();
+        let mut line = [text, &b"H    0    0    0    0\n"[text.len()..]].concat();
         (0..NUMBER_SIGNS.len().pow(missing as u32)).any(|code| {
             let mut rest = code;
             for byte in &mut line[text.len()..text.len() + missing] {
@@ -575,7 +651,7 @@ mod tests {
     /// before the column can be ended, and the one up to the column cannot.
     #[test]
     fn every_damage_of_one_byte() {
-        for line in [b"A   10   -7    0\n", b"W-9999  20899999\n"] {
+        for line in [b"A   10   -7    0  999\n", b"W-9999  20899999-1234\n"] {
             let mut malformed = [0; LINE + 1];
             for (at, byte) in (0..LINE).flat_map(|at| (0..=255).map(move |byte| (at, byte))) {
                 let mut damaged = *line;

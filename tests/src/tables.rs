@@ -3,7 +3,10 @@
 
 use std::fmt;
 
-use crate::oracle::{Gate, Sheet, LITERALS, MAX_GATES, MAX_RULES, MAX_WISHES};
+use crate::oracle::{Gate, Sheet, Wish, LITERALS, MAX_GATES, MAX_RULES, MAX_WISHES, WEIGHT};
+
+/// Words of a wish: its literals and its weight.
+pub const WISH: usize = LITERALS + 1;
 
 /// What a sheet says, in words: right ones or any others.
 #[derive(Clone, PartialEq, Eq)]
@@ -16,7 +19,8 @@ pub struct Tables {
     /// A gate's letter, first point and second point.
     pub gate: [[u32; 3]; MAX_GATES],
     pub rule: [u32; MAX_RULES],
-    pub wish: [[u32; LITERALS]; MAX_WISHES],
+    /// A wish's literals and its weight.
+    pub wish: [[u32; WISH]; MAX_WISHES],
 }
 
 impl Default for Tables {
@@ -29,7 +33,7 @@ impl Default for Tables {
             wishes: 0,
             gate: [[0; 3]; MAX_GATES],
             rule: [0; MAX_RULES],
-            wish: [[0; LITERALS]; MAX_WISHES],
+            wish: [[0; WISH]; MAX_WISHES],
         }
     }
 }
@@ -50,9 +54,10 @@ impl Tables {
         }
         tables.rule[..sheet.rules.len()].copy_from_slice(&sheet.rules);
         for (words, wish) in tables.wish.iter_mut().zip(&sheet.wishes) {
-            for (word, &literal) in words.iter_mut().zip(wish) {
+            for (word, &literal) in words.iter_mut().zip(&wish.literals) {
                 *word = word_of(literal);
             }
+            words[WEIGHT] = wish.weight;
         }
         tables
     }
@@ -68,9 +73,12 @@ impl Tables {
             0 => (word / 2) as i32,
             _ => -((word / 2) as i32),
         };
-        let wish = |words: &[u32; LITERALS]| {
-            let used = words.iter().filter(|&&word| word != 0);
-            used.map(literal).collect()
+        let wish = |words: &[u32; WISH]| {
+            let used = words[..LITERALS].iter().filter(|&&word| word != 0);
+            Wish {
+                literals: used.map(literal).collect(),
+                weight: words[WEIGHT],
+            }
         };
         let [gates, rules, wishes] = self.held();
         Sheet {
@@ -167,15 +175,16 @@ mod tests {
         let sheet = read(SAMPLE.as_bytes()).unwrap();
         let tables = Tables::of(&sheet);
         let words = tables.words();
-        assert_eq!(words.len(), 1_461);
+        assert_eq!(words.len(), 1_525);
         let o = u32::from(b'O');
         assert_eq!(words[..14], [2, 2, 3, 1, 2, o, 1, 2, o, 3, 4, o, 5, 6]);
-        assert_eq!((words[1_205], words[1_269], words[1_272]), (7, 3, 5));
-        assert_eq!(words.iter().filter(|&&word| word != 0).count(), 17);
+        assert_eq!(words[1_205], 7);
+        assert_eq!(words[1_269..1_277], [3, 0, 0, 1, 5, 0, 0, 1]);
+        assert_eq!(words.iter().filter(|&&word| word != 0).count(), 19);
         assert_eq!(tables.said(), sheet);
         let shown = format!("{tables:?}");
         assert!(
-            shown.ends_with("rule: [7], wish: [[3, 0, 0], [5, 0, 0]] }"),
+            shown.ends_with("rule: [7], wish: [[3, 0, 0, 1], [5, 0, 0, 1]] }"),
             "{shown}"
         );
     }

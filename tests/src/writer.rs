@@ -16,7 +16,7 @@ use planner_tests::cases::{self, Cases};
 use planner_tests::counts::TABLES;
 use planner_tests::generate::Random;
 use planner_tests::options::{ended, misused, Options};
-use planner_tests::oracle::{self, BAD_FIELD, BAD_SIZE, MAX_BYTES, TOO_MANY};
+use planner_tests::oracle::{self, BAD_FIELD, BAD_SIZE, BAD_WEIGHT, MAX_BYTES, TOO_MANY};
 use planner_tests::planning::light;
 use planner_tests::shrink::shrunk;
 use planner_tests::stack::on_stated_stack;
@@ -57,7 +57,7 @@ struct Total {
     failed: u64,
     /// The writings with each number.
     numbers: BTreeMap<u32, u64>,
-    /// The tables with each refusal, 5 and 6 by the part of the sheet, and those of each recipe.
+    /// The tables with each refusal, those of a line by the part of the sheet, and those of each recipe.
     outcomes: BTreeMap<String, u64>,
     recipes: BTreeMap<&'static str, u64>,
     /// Written sheets that were answered.
@@ -283,7 +283,7 @@ impl Total {
                 rare.push(format!("{what} came {came} times, fewer than {fewest}"));
             }
         };
-        for number in [0, BAD_SIZE, TOO_MANY, BAD_FIELD, TOO_SHORT] {
+        for number in [0, BAD_SIZE, TOO_MANY, BAD_FIELD, BAD_WEIGHT, TOO_SHORT] {
             let came = self.numbers.get(&number);
             at_least(1_000, came, format!("number {number}"));
         }
@@ -293,6 +293,8 @@ impl Total {
                 at_least(100, self.outcomes.get(&outcome), outcome);
             }
         }
+        let outcome = format!("{BAD_WEIGHT} at a wish");
+        at_least(100, self.outcomes.get(&outcome), outcome);
         for recipe in kinds() {
             let came = self.recipes.get(recipe);
             at_least(200, came, format!("tables made by '{recipe}'"));

@@ -395,7 +395,8 @@ impl<'a> Check<'a> {
         }
     }
 
-    /// Rating of every plan if they are few, of some if not, and of such as there are not.
+    /// Rating of every plan if they are few, of some if not, always of the last one, which breaks all wishes for
+    /// switches to be off, and of such as there are not.
     fn ratings(&mut self, planner: &Planner, run: &Run, effort: &mut Effort) {
         self.choose(Choice::Plans);
         let plans = planner.plans();
@@ -413,7 +414,7 @@ impl<'a> Check<'a> {
             }
         }
         let higher = self.r.word() | 1 << self.r.between(planner.sheet.switches as i32, 31);
-        for plan in [plans, higher, u32::MAX] {
+        for plan in [plans - 1, plans, higher, u32::MAX] {
             self.rating(plan, planner.rating(plan));
         }
     }

@@ -2,7 +2,7 @@
 
 use planner_tests::brute::{listing_of, Found, Planner, Rated};
 use planner_tests::form::Form;
-use planner_tests::generate::sheet;
+use planner_tests::generate::{sheet, without_fourth_numbers};
 use planner_tests::malformed;
 use planner_tests::oracle::{Refusal, MAX_GATES};
 use planner_tests::typed::places;
@@ -28,8 +28,21 @@ struct Example {
 }
 
 const E3: &str = "H 2 2; O 1 2; O 3 4; O 5 6; R 7; W -1; W -2; Z 7";
+/// Example 1 of source document 002, with its weights.
+const EXAMPLE_1: &str = "H 2 2; O 1 2; O 3 4; O 5 6; R 7; W -1 0 0 2; W -2 0 0 3; Z 7";
 const E4: &str = "H 0 1; R 1; Z 2";
 const E7: &str = "H 1 1; N 1; N 2; A 1 2; A 3 4; O 5 6; R 7; Z 7";
+
+/// What the program prints for Example 1 with its weights.
+const EXAMPLE_1_LISTING: &str = "\
+A    0    0    2
+S    1    1    0
+S    2    0    0
+W    1    0    0
+W    2    1    0
+F    1    0    0
+Z    6    0    0
+";
 
 fn refused(number: u32, place: usize) -> Found {
     let column = 0;
@@ -138,6 +151,48 @@ fn sheets() -> Vec<Example> {
             &[0],
         ),
         answer("E9, an empty wish", "H; W; Z 2", 0, plan(0, 1), &[]),
+        answer("Example 1 with weights", EXAMPLE_1, 3, plan(2, 2), &[0]),
+        rating("Example 1 with weights, plan 1", EXAMPLE_1, 1, sound(3)),
+        rating("Example 1 with weights, plan 3", EXAMPLE_1, 3, sound(5)),
+        short_run(
+            "Example 1 with weights, over pattern 0",
+            EXAMPLE_1,
+            &[0],
+            plan(2, 2),
+        ),
+        example(
+            "Example 1 with weights, listing",
+            sheet(EXAMPLE_1),
+            Job::Listing(EXAMPLE_1_LISTING.into()),
+        ),
+        answer(
+            "one wish that weighs more than two",
+            "H 1 0; W 1; W 1; W -1 0 0 3; Z 4",
+            0,
+            plan(0, 2),
+            &[],
+        ),
+        answer(
+            "as much for as against: the smaller plan",
+            "H 1 0; W 1; W 1; W -1 0 0 2; Z 4",
+            0,
+            plan(0, 2),
+            &[],
+        ),
+        answer(
+            "a repeated wish with other weights",
+            "H 2 0; O 1 2; R 3; W -2 0 0 400; W -1 0 0 399; W -1 0 0 2; Z 6",
+            3,
+            plan(1, 400),
+            &[0],
+        ),
+        answer(
+            "an empty wish that weighs 999",
+            "H; W 0 0 0 999; Z 2",
+            0,
+            plan(0, 999),
+            &[],
+        ),
         short_run("E10, short run over no pattern", E3, &[], plan(0, 0)),
         short_run("E10, short run over pattern 0", E3, &[0], plan(1, 1)),
         answer(
@@ -173,6 +228,8 @@ fn sheets() -> Vec<Example> {
         answer("a full sheet", &full(), 9, plan(1, 0), &[0]),
         answer("64 broken wishes", &all_broken(), 9, plan(0xff, 64), &[0]),
         rating("64 broken wishes, rating", &all_broken(), 0xff, sound(64)),
+        answer("the greatest cost", &dearest(), 9, plan(1, 63_936), &[0]),
+        rating("the greatest cost, rating", &dearest(), 1, sound(63_936)),
         answer("20 switches on", &all_on(), 9, plan(0xf_ffff, 0), &[0]),
         rating("20 switches on, rating", &all_on(), 0xf_ffff, sound(0)),
         rating("20 switches, plan 2^20", &all_on(), 0x10_0000, not_rated),
@@ -292,6 +349,70 @@ fn malformed() -> Vec<Example> {
     made
 }
 
+/// Every job on sheets with a wrong weight, and on sheets whose lines have no fourth number.
+fn weights() -> Vec<Example> {
+    let refused_at = |number, place, column| Refusal {
+        number,
+        place,
+        column,
+    };
+    let mut made = Vec::new();
+    for weight in [0, -1, -9_999, 1_000, 1_001, 10_000, 99_999] {
+        let short = format!("H 1 0; W 1; W -1 0 0 {weight}; Z 3");
+        let name = format!("a weight of {weight}");
+        made.extend(every_job(&name, sheet(&short), refused_at(14, 3, 0)));
+    }
+    let others = [
+        (
+            "a weight of 0 and a wrong literal",
+            "H 1 0; W 2 0 0 0; Z 2",
+            (6, 2),
+        ),
+        (
+            "a weight of 0 and a literal after 0",
+            "H 1 0; W 0 1 0 0; Z 2",
+            (6, 2),
+        ),
+        (
+            "a weight of 0, then a wrong literal",
+            "H 1 0; W 1 0 0 0; W 2; Z 3",
+            (14, 2),
+        ),
+        (
+            "a weight of 0 and a wrong count",
+            "H 1 0; W 1 0 0 0; Z 9",
+            (14, 2),
+        ),
+        (
+            "a weight of 0, then a rule",
+            "H 1 0; W 1 0 0 0; R 1; Z 3",
+            (14, 2),
+        ),
+        ("a rule with a weight", "H 1 0; R 1 0 0 1; Z 2", (6, 2)),
+        ("sizes with a weight", "H 1 0 0 1; Z 1", (6, 1)),
+        ("a gate with a weight", "H 1 0; A 1 1 0 1; Z 2", (6, 2)),
+        ("an end with a weight", "H 1 0; Z 1 0 0 1", (6, 2)),
+    ];
+    for (name, short, (number, place)) in others {
+        made.extend(every_job(name, sheet(short), refused_at(number, place, 0)));
+    }
+    let short_lines = |lines: usize| {
+        let wishes = "W -1; ".repeat(lines - 2);
+        without_fourth_numbers(&sheet(&format!("H 1 0; {wishes}Z {}", lines - 1)))
+    };
+    for (lines, refusal) in [
+        (2, refused_at(1, 0, 0)),
+        (21, refused_at(1, 0, 0)),
+        (22, refused_at(2, 1, 17)),
+        (44, refused_at(2, 1, 17)),
+        (66, refused_at(2, 1, 17)),
+    ] {
+        let name = format!("{lines} lines without a fourth number");
+        made.extend(every_job(&name, short_lines(lines), refusal));
+    }
+    made
+}
+
 /// The four jobs on one refused sheet or text.
 fn every_job(name: &str, bytes: Vec<u8>, refusal: Refusal) -> [Example; 4] {
     let Refusal {
@@ -319,6 +440,10 @@ fn texts() -> Vec<Example> {
     const E4: &str = "switches 0\nfaults 1\nrule f1\n";
     const E7: &str = "switches 1\nfaults 1\nrule s1&f1 | !s1&!f1\n";
     const MOST: &str = "switches 20\nfaults 16\n";
+    const EXAMPLE_1: &str =
+        "switches 2\nfaults 2\nrule (s1|s2)|(f1|f2)\nwish !s1 weight 2\nwish !s2 weight 3\n";
+    const REPEATED: &str = "switches 2\nfaults 0\nrule s1|s2\n\
+        wish !s2 weight 400\nwish !s1 weight 399\nwish !s1\nwish !s1 !s1 weight 1\n";
     let lane_four = include_str!("../../../examples/lane-four.text");
     let answer = |room, figures: Found, list: &[u32]| {
         let length = list.len();
@@ -357,7 +482,22 @@ fn texts() -> Vec<Example> {
             E3,
             Job::ShortRun(vec![3, 4], refused(11, 2)),
         ),
-        ("lane four", lane_four, answer(9, plan(7, 2), &[1, 6])),
+        (
+            "Example 1 with weights",
+            EXAMPLE_1,
+            answer(3, plan(2, 2), &[0]),
+        ),
+        (
+            "Example 1 with weights, listing",
+            EXAMPLE_1,
+            Job::Listing(EXAMPLE_1_LISTING.into()),
+        ),
+        (
+            "a repeated wish with other weights",
+            REPEATED,
+            answer(3, plan(1, 400), &[0]),
+        ),
+        ("lane four", lane_four, answer(9, plan(7, 4), &[1, 6])),
     ];
     examples
         .into_iter()
@@ -411,6 +551,11 @@ fn all_broken() -> String {
     format!("H 8 0; {rules}{}Z 73", wishes.concat())
 }
 
+/// The switch has to be on, and 64 wishes of the largest weight ask for it to be off.
+fn dearest() -> String {
+    format!("H 1 0; R 1; {}Z 66", "W -1 0 0 999; ".repeat(64))
+}
+
 /// Twenty switches have to be on.
 fn all_on() -> String {
     let rules: String = (1..=20).map(|k| format!("R {k}; ")).collect();
@@ -455,7 +600,7 @@ fn by_hand(job: &Job) -> String {
 pub fn try_all(form: Form) -> (u64, u64) {
     let (mut passed, mut failed) = (0, 0);
     let examples = match form {
-        Form::Sheet => [sheets(), chains(), malformed()].concat(),
+        Form::Sheet => [sheets(), chains(), malformed(), weights()].concat(),
         Form::Text => [texts(), typed_chains(), placed()].concat(),
     };
     for example in examples {

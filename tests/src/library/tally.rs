@@ -2,17 +2,20 @@
 
 use std::collections::BTreeMap;
 
-use planner_tests::brute::{End, Found, Planner, Rated, Run, NO_PLAN, NO_ROOM};
+use planner_tests::brute::{End, Found, Planner, Rated, Run, MAX_COST, NO_PLAN, NO_ROOM};
 use planner_tests::form::Form;
-use planner_tests::oracle::{LINE, MALFORMED};
+use planner_tests::generate::has_short_lines;
+use planner_tests::oracle::{BAD_WEIGHT, LINE, MALFORMED};
 use planner_tests::planning::Made;
+use planner_tests::typed::depth;
 use planner_tests::typed::generate::kinds;
-use planner_tests::typed::{depth, NOT_LEGAL};
 
-/// The numbers that a job can return: 0 and the refusals.
-const NUMBERS: usize = NOT_LEGAL as usize + 1;
+/// The numbers that a job can return, 0 and the refusals, and that of writing among them.
+const NUMBERS: usize = BAD_WEIGHT as usize + 1;
 /// Those that only a sheet is refused with.
 const SHEETS_ALONE: [usize; 4] = [1, 2, 3, 7];
+/// With more plans it is not asked whether the weights decide.
+const FEW_PLANS: u32 = 64;
 
 /// How the room lent compares with the list.
 #[derive(Clone, Copy)]
@@ -85,6 +88,12 @@ pub struct Calls {
     /// Sheets whose list is as long as there are plans, and as there are patterns.
     all_plans: u64,
     all_patterns: u64,
+    /// Sheets of which another plan would be the answer if all wishes weighed the same.
+    decided: u64,
+    /// Ratings with the greatest cost.
+    dearest: u64,
+    /// Sheets whose lines have no fourth number: those of a wrong length, and the others.
+    short_lines: [u64; 2],
     /// How many texts each recipe made, how many reach the greatest depth and how many pass it.
     kinds: BTreeMap<&'static str, u64>,
     deepest: u64,
@@ -109,6 +118,7 @@ impl Calls {
     pub fn rated(&mut self, rated: &Rated) {
         self.ratings.count(rated.number, rated.column);
         self.sound += u64::from(rated.number == 0 && rated.sound == 1);
+        self.dearest += u64::from(rated.cost == MAX_COST);
     }
 
     /// The list of one sheet.
@@ -124,15 +134,24 @@ impl Calls {
         let length = run.list.len();
         self.all_plans += u64::from(length == planner.plans() as usize);
         self.all_patterns += u64::from(length == planner.patterns() as usize);
+        if let (End::Plan(plan), 0..=FEW_PLANS) = (run.end, planner.plans()) {
+            self.decided += u64::from(planner.weights_decide(plan));
+        }
     }
 
-    /// What a text was made by, and how deep it goes.
-    pub fn made(&mut self, form: Form, made: &Made) {
-        if form == Form::Text {
-            *self.kinds.entry(made.kind).or_default() += 1;
-            let depth = depth(&made.bytes);
-            self.deepest += u64::from(depth.reached);
-            self.too_deep += u64::from(depth.passed);
+    /// Whether a sheet's lines have no fourth number; what a text was made by, and how deep it goes.
+    pub fn made(&mut self, form: Form, Made { bytes, kind, .. }: &Made) {
+        match form {
+            Form::Sheet => {
+                let whole_lines = bytes.len().is_multiple_of(LINE);
+                self.short_lines[usize::from(whole_lines)] += u64::from(has_short_lines(bytes));
+            }
+            Form::Text => {
+                *self.kinds.entry(kind).or_default() += 1;
+                let depth = depth(bytes);
+                self.deepest += u64::from(depth.reached);
+                self.too_deep += u64::from(depth.passed);
+            }
         }
     }
 
@@ -149,6 +168,9 @@ impl Calls {
         add(&mut self.plans, &other.plans);
         add(&mut self.no_plans, &other.no_plans);
         add(&mut self.left, &other.left);
+        add(&mut self.short_lines, &other.short_lines);
+        self.decided += other.decided;
+        self.dearest += other.dearest;
         self.sound += other.sound;
         self.listings += other.listings;
         self.all_plans += other.all_plans;
@@ -196,6 +218,12 @@ impl Calls {
             "lists as long as there are plans: {}, patterns: {}",
             self.all_plans, self.all_patterns
         );
+        println!(
+            "{} that the weights decide: {}, ratings with the greatest cost: {}",
+            form.name(),
+            self.decided,
+            self.dearest
+        );
     }
 
     fn show_columns(&self) {
@@ -209,6 +237,10 @@ impl Calls {
                 self.ratings.columns[before]
             );
         }
+        let [wrong, right] = self.short_lines;
+        println!(
+            "sheets without fourth numbers: {wrong} of a wrong length, {right} of a right one"
+        );
     }
 
     fn show_kinds(&self) {
@@ -236,6 +268,7 @@ impl Calls {
             ("a listing", self.listings, 40),
             ("a list of at least 2", lists(2), 25),
             ("a list of at least 12", lists(12), 2),
+            ("the greatest cost", self.dearest, 3),
         ];
         let rare = came.iter().filter(|(_, came, fewest)| came < fewest);
         rare.map(|(what, came, fewest)| format!("{what} came {came} times, fewer than {fewest}"))
@@ -259,6 +292,8 @@ impl Calls {
                 11 => (0, 1_000, 0),
                 n if form == Form::Text && SHEETS_ALONE.contains(&n) => (0, 0, 0),
                 12 if form == Form::Sheet => (0, 0, 0),
+                // It belongs to writing.
+                13 => (0, 0, 0),
                 // A sheet of 401 gates, 65 rules or 65 wishes comes from one recipe only.
                 5 => (50, 50, 50),
                 _ => (200, 200, 200),
@@ -270,6 +305,15 @@ impl Calls {
             ] {
                 at_least(fewest, outcomes.numbers[number], format!("{job} {number}"));
             }
+        }
+        let (decided, short_lines) = match form {
+            Form::Sheet => (1_000, 200),
+            Form::Text => (200, 0),
+        };
+        at_least(decided, self.decided, "weights that decide".into());
+        for (came, length) in self.short_lines.into_iter().zip(["a wrong", "a right"]) {
+            let what = format!("a sheet without fourth numbers of {length} length");
+            at_least(short_lines, came, what);
         }
         if form == Form::Text {
             for kind in kinds() {

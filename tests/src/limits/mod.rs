@@ -81,6 +81,9 @@ impl Kind {
             if fill {
                 parts.fill(r, form, most);
             }
+            if fill && r.one_in(2) {
+                parts.weigh_most();
+            }
             Made::Parts(parts)
         };
         match self {
@@ -178,16 +181,20 @@ impl Shrink for Limit {
 #[cfg(test)]
 mod tests {
     use super::*;
+    use crate::brute::MAX_COST;
     use crate::shrink::shrunk;
 
-    /// Each limit is met by many, and all together by some.
+    /// Each limit is met by many, and all together by some; and so is the greatest cost.
     #[test]
     fn the_limits_are_reached() {
         for form in [Form::Sheet, Form::Text] {
             let mut met = [0; 6];
+            let mut dearest = 0;
             for index in 0..160 {
                 let bytes = Limit::made(form, 1, index).bytes();
                 let sheet = form.read(&bytes).expect("an accepted one");
+                let last_plan = (1 << sheet.switches) - 1;
+                dearest += usize::from(sheet.cost(last_plan) == MAX_COST);
                 let limits = [
                     sheet.switches == MAX_SWITCHES as u32,
                     sheet.faults == MAX_FAULTS as u32,
@@ -200,9 +207,10 @@ mod tests {
                     *count += usize::from(is_met);
                 }
             }
-            println!("{form:?} {met:?}");
+            println!("{form:?} {met:?}, {dearest}");
             assert!(met[..5].iter().all(|&count| count >= 40), "{met:?}");
-            assert!(met[5] >= 10, "{met:?}");
+            assert!(met[5] >= 8, "{met:?}");
+            assert!(dearest >= 8, "{dearest}");
         }
     }
 

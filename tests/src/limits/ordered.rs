@@ -6,8 +6,8 @@ use std::collections::HashSet;
 
 use crate::brute::{ranked, Method};
 use crate::generate::{written, Random};
-use crate::oracle::{read, Sheet, MAX_FAULTS, MAX_GATES, MAX_SWITCHES};
-use crate::planning::{a_wish, shuffle, with_digit, Circuit, Relation};
+use crate::oracle::{read, Sheet, Wish, MAX_FAULTS, MAX_GATES, MAX_SWITCHES};
+use crate::planning::{a_wish, shuffle, with_digit, Circuit, Relation, Weights};
 use crate::shrink::Shrink;
 
 /// A digit of the numbers that are compared: a switch, on or off, and a fault.
@@ -25,7 +25,7 @@ pub struct Ordered {
     /// The highest first.
     digits: Vec<Digit>,
     relation: Relation,
-    wishes: Vec<Vec<i32>>,
+    wishes: Vec<Wish>,
 }
 
 impl Ordered {
@@ -34,11 +34,12 @@ impl Ordered {
         let digits = r.between(8, MAX_FAULTS) as u32;
         let switches = r.pick(&[digits, digits + 1, MAX_SWITCHES as u32]);
         let mut made = Ordered::drawn(r, switches, MAX_FAULTS as u32, digits);
+        let weights = Weights::drawn(r);
         for _ in 0..r.pick(&[0, 0, 4, 12]) {
-            let wish = a_wish(r, switches as i32, &made.wishes);
+            let wish = a_wish(r, switches as i32, &made.wishes, weights);
             // A text has no empty wish.
             made.wishes
-                .extend(Some(wish).filter(|wish| !wish.is_empty()));
+                .extend(Some(wish).filter(|wish| !wish.literals.is_empty()));
         }
         made
     }
@@ -207,8 +208,9 @@ mod tests {
             let digits = 1 + r.below(5) as u32;
             let (switches, faults) = (digits + r.below(3) as u32, digits + r.below(3) as u32);
             let mut ordered = Ordered::drawn(r, switches, faults, digits);
+            let weights = Weights::drawn(r);
             for _ in 0..r.below(4) {
-                let wish = a_wish(r, switches as i32, &ordered.wishes);
+                let wish = a_wish(r, switches as i32, &ordered.wishes, weights);
                 ordered.wishes.push(wish);
             }
             let sheet = ordered.sheet();

@@ -10,8 +10,8 @@
 use crate::brute::{End, Method, Planner};
 use crate::form::Form;
 use crate::generate::Random;
-use crate::oracle::{Gate, Sheet};
-use crate::planning::{a_wish, part, shuffle};
+use crate::oracle::{Gate, Sheet, Wish, MAX_WEIGHT};
+use crate::planning::{a_wish, part, shuffle, Weights};
 use crate::shrink::{smaller_sheets, without_input, Shrink};
 
 /// A part: a sheet, and the numbers on the whole sheet of its switches and faults, rising.
@@ -58,8 +58,11 @@ impl Parts {
         }
         for (k, wish) in in_turn(&self.parts, |part| &part.sheet.wishes) {
             let switch = |literal: &i32| names[k][literal.unsigned_abs() as usize - 1] as i32;
-            let literals = wish.iter().map(|l| switch(l) * l.signum());
-            whole.wishes.push(literals.collect());
+            let literals = wish.literals.iter().map(|l| switch(l) * l.signum());
+            whole.wishes.push(Wish {
+                literals: literals.collect(),
+                weight: wish.weight,
+            });
         }
         whole
     }
@@ -200,7 +203,7 @@ impl Parts {
             let mut sheet = part(r, sizes.0, sizes.1, most_gates);
             sheet.rules.truncate(rules);
             if form == Form::Text {
-                sheet.wishes.retain(|wish| !wish.is_empty());
+                sheet.wishes.retain(|wish| !wish.literals.is_empty());
             }
             sheet.wishes.truncate(wishes);
             if operators(&sheet, form) > gates {
@@ -233,6 +236,7 @@ impl Parts {
         if self.parts.is_empty() {
             return;
         }
+        let weights = Weights::drawn(r);
         loop {
             let [gates, rules, wishes] = self.left(form, most);
             let k = r.below(self.parts.len());
@@ -242,8 +246,8 @@ impl Parts {
                 let at = r.below(sheet.rules.len() + 1);
                 sheet.rules.insert(at, always);
             } else if wishes > 0 {
-                let wish = a_wish(r, sheet.switches as i32, &sheet.wishes);
-                if form == Form::Sheet || !wish.is_empty() {
+                let wish = a_wish(r, sheet.switches as i32, &sheet.wishes, weights);
+                if form == Form::Sheet || !wish.literals.is_empty() {
                     sheet.wishes.push(wish);
                 }
             } else if gates > 0 && !sheet.rules.is_empty() {
@@ -253,6 +257,18 @@ impl Parts {
             } else if gates == 0 || self.parts.iter().all(|part| part.sheet.rules.is_empty()) {
                 return;
             }
+        }
+    }
+}
+
+impl Parts {
+    /// All wishes are for switches to be off, and weigh as much as may be: so with all switches on the cost is
+    /// the greatest that so many wishes have.
+    pub fn weigh_most(&mut self) {
+        let parts = self.parts.iter_mut();
+        for wish in parts.flat_map(|part| &mut part.sheet.wishes) {
+            wish.weight = MAX_WEIGHT;
+            wish.literals.iter_mut().for_each(|l| *l = -l.abs());
         }
     }
 }

@@ -1,5 +1,5 @@
 //! Sheets that make the planner work: long lists, sheets without a plan, wishes that are repeated,
-//! conflict or cannot be broken, rules that hold for each fault alone and not for several.
+//! conflict or cannot be broken, weights that decide, rules that hold for each fault alone and not for several.
 //! A sheet follows from its seed and its index alone, so each can be made again.
 //!
 //! The planner may work out a gate again each time that another one names it. So what counts as
@@ -8,8 +8,8 @@
 #[cfg(test)]
 mod wrong;
 
-use crate::generate::{damaged, string, written, Random, Row, DAMAGES};
-use crate::oracle::{read, Sheet, LITERALS, MAX_GATES, MAX_RULES, MAX_WISHES};
+use crate::generate::{damaged, string, weight, written, Random, Row, DAMAGES};
+use crate::oracle::{read, Sheet, Wish, LITERALS, MAX_GATES, MAX_RULES, MAX_WEIGHT, MAX_WISHES};
 
 /// The largest tree of one point.
 const MAX_TREE: u64 = 1_000;
@@ -137,11 +137,12 @@ impl Circuit {
     }
 
     /// The sheet with these gates, rules and wishes.
-    pub(crate) fn sheet(self, rules: &[i32], wishes: &[Vec<i32>]) -> Vec<Row> {
+    pub(crate) fn sheet(self, rules: &[i32], wishes: &[Wish]) -> Vec<Row> {
         let mut rows = vec![Row::new(b'H', &[self.switches, self.faults])];
         rows.extend(self.gates);
         rows.extend(rules.iter().map(|&point| Row::new(b'R', &[point])));
-        rows.extend(wishes.iter().map(|wish| Row::new(b'W', wish)));
+        let wish = |wish: &Wish| Row::wish(&wish.literals, wish.weight as i32);
+        rows.extend(wishes.iter().map(wish));
         let before = rows.len() as i32;
         rows.push(Row::new(b'Z', &[before]));
         rows
@@ -444,6 +445,28 @@ fn together(r: &mut Random, c: &mut Circuit) -> Vec<i32> {
     rules
 }
 
+/// Of some switches one has to be on, unless a fault is there: which of them, the weights of the wishes tell.
+fn choices(r: &mut Random, c: &mut Circuit) -> Vec<i32> {
+    if c.switches < 2 {
+        return loose(r, c);
+    }
+    let mut rules = Vec::new();
+    for _ in 0..1 + r.below(5) {
+        let mut literals = Vec::new();
+        for _ in 0..2 + r.below(3) {
+            let switch = c.a_switch(r);
+            let plain = !r.one_in(6);
+            literals.push(c.literal(switch, plain));
+        }
+        if c.faults > 0 && r.one_in(2) {
+            let fault = c.a_fault(r);
+            literals.push(c.either(r, fault));
+        }
+        rules.push(c.chain(b'O', &literals));
+    }
+    rules
+}
+
 /// One long chain of gates.
 fn deep(r: &mut Random, c: &mut Circuit) -> Vec<i32> {
     let mut point = c.a_leaf(r);
@@ -527,14 +550,43 @@ pub fn shuffle<T>(r: &mut Random, items: &mut [T]) {
     }
 }
 
-/// The wish once more: as it was written, or in any order and perhaps with one literal repeated.
-fn again(r: &mut Random, wish: &[i32]) -> Vec<i32> {
-    let mut literals = wish.to_vec();
+/// How the wishes of a sheet weigh.
+#[derive(Clone, Copy)]
+pub(crate) enum Weights {
+    Ones,
+    /// So little that different wishes often weigh the same together.
+    Few,
+    Any,
+    /// As little or as much as may be.
+    Ends,
+}
+
+impl Weights {
+    pub(crate) fn drawn(r: &mut Random) -> Weights {
+        use Weights::*;
+        r.pick(&[Ones, Few, Few, Any, Ends])
+    }
+
+    /// A wish of these literals. Equal ones may get different weights.
+    fn wish(self, r: &mut Random, literals: Vec<i32>) -> Wish {
+        let weight = match self {
+            Weights::Ones => 1,
+            Weights::Few => r.between(1, 4) as u32,
+            Weights::Any => weight(r) as u32,
+            Weights::Ends => r.pick(&[1, MAX_WEIGHT]),
+        };
+        Wish { literals, weight }
+    }
+}
+
+/// The literals of a wish once more: as they were written, or in any order and perhaps with one repeated.
+fn again(r: &mut Random, wish: &Wish) -> Vec<i32> {
+    let mut literals = wish.literals.clone();
     if r.one_in(3) {
         return literals;
     }
     if !literals.is_empty() && literals.len() < LITERALS && r.one_in(2) {
-        literals.push(r.pick(wish));
+        literals.push(r.pick(&wish.literals));
     }
     shuffle(r, &mut literals);
     literals
@@ -550,7 +602,12 @@ fn a_literal(r: &mut Random, switches: i32) -> i32 {
     }
 }
 
-pub(crate) fn a_wish(r: &mut Random, switches: i32, earlier: &[Vec<i32>]) -> Vec<i32> {
+pub(crate) fn a_wish(r: &mut Random, switches: i32, earlier: &[Wish], weights: Weights) -> Wish {
+    let literals = some_literals(r, switches, earlier);
+    weights.wish(r, literals)
+}
+
+fn some_literals(r: &mut Random, switches: i32, earlier: &[Wish]) -> Vec<i32> {
     if !earlier.is_empty() && r.one_in(4) {
         let k = r.below(earlier.len());
         return again(r, &earlier[k]);
@@ -582,23 +639,25 @@ fn every_clause(switches: i32, on: bool) -> Vec<Vec<i32>> {
     clauses
 }
 
-fn wishes(r: &mut Random, switches: i32) -> Vec<Vec<i32>> {
-    let mut made: Vec<Vec<i32>> = Vec::new();
-    match r.below(20) {
-        0 | 1 => return made,
-        2..=6 => made.extend((1..=switches).map(|k| vec![-k])),
-        7 | 8 => made.extend((1..=switches).map(|k| vec![k])),
-        9 | 10 => made.extend((1..=switches).flat_map(|k| [vec![k], vec![-k]])),
-        11 => made.extend(every_clause(switches, r.one_in(2))),
-        _ => {}
-    }
+fn wishes(r: &mut Random, switches: i32) -> Vec<Wish> {
+    let weights = Weights::drawn(r);
+    let clauses: Vec<Vec<i32>> = match r.below(20) {
+        0 | 1 => return Vec::new(),
+        2..=7 => (1..=switches).map(|k| vec![-k]).collect(),
+        8 | 9 => (1..=switches).map(|k| vec![k]).collect(),
+        10..=12 => (1..=switches).flat_map(|k| [vec![k], vec![-k]]).collect(),
+        13 => every_clause(switches, r.one_in(2)),
+        _ => Vec::new(),
+    };
+    let clauses = clauses.into_iter();
+    let mut made: Vec<Wish> = clauses.map(|literals| weights.wish(r, literals)).collect();
     let most = match r.below(30) {
         0 => MAX_WISHES + 1,
         1..=9 => 20,
         _ => 7,
     };
     for _ in 0..r.below(most) {
-        let wish = a_wish(r, switches, &made);
+        let wish = a_wish(r, switches, &made, weights);
         made.push(wish);
     }
     if r.one_in(3) {
@@ -608,6 +667,7 @@ fn wishes(r: &mut Random, switches: i32) -> Vec<Vec<i32>> {
         // A full sheet of wishes, the first of them many times.
         for _ in made.len()..MAX_WISHES {
             let first = again(r, &made[0]);
+            let first = weights.wish(r, first);
             made.insert(0, first);
         }
     }
@@ -643,7 +703,7 @@ fn sizes(r: &mut Random, class: Class, kind: usize) -> (i32, i32) {
         Class::Small => match r.below(8) {
             0 => (r.between(0, 5), r.between(0, 2)),
             1 => (r.between(0, 2), r.between(0, 5)),
-            _ if LENGTHY.contains(&kind) => (r.between(2, 5), r.between(2, 5)),
+            _ if LENGTHY.contains(&kind) || kind == CHOICES => (r.between(2, 5), r.between(2, 5)),
             _ => (r.between(1, 4), r.between(1, 4)),
         },
         Class::Medium => (r.between(3, 6), r.between(3, 6)),
@@ -657,7 +717,7 @@ fn sizes(r: &mut Random, class: Class, kind: usize) -> (i32, i32) {
 }
 
 /// What the rules are made by.
-pub const KINDS: [&str; 9] = [
+pub const KINDS: [&str; 10] = [
     "loose",
     "clauses",
     "forbidden",
@@ -665,12 +725,14 @@ pub const KINDS: [&str; 9] = [
     "services",
     "followers",
     "together",
+    "choices",
     "deep",
     "bare",
 ];
 
 const FORBIDDEN: usize = 2;
 const COMPARED: usize = 3;
+const CHOICES: usize = 7;
 /// Those whose lists grow long.
 const LENGTHY: [usize; 2] = [FORBIDDEN, COMPARED];
 
@@ -686,14 +748,15 @@ fn rules(r: &mut Random, kind: usize, c: &mut Circuit) -> Vec<i32> {
         4 => services(r, c),
         5 => followers(r, c),
         6 => together(r, c),
-        7 => deep(r, c),
+        7 => choices(r, c),
+        8 => deep(r, c),
         _ => bare(r, c),
     }
 }
 
 /// Any kind, those with long lists more often.
 fn a_kind(r: &mut Random) -> usize {
-    r.pick(&[0, 1, 2, 2, 2, 3, 3, 3, 4, 4, 5, 6, 6, 7, 8])
+    r.pick(&[0, 1, 2, 2, 2, 2, 3, 3, 3, 3, 4, 4, 5, 6, 6, 7, 7, 7, 8, 9])
 }
 
 fn rows(r: &mut Random, class: Class) -> (Vec<Row>, &'static str) {
@@ -716,7 +779,7 @@ fn rows(r: &mut Random, class: Class) -> (Vec<Row>, &'static str) {
 }
 
 /// Rules of this kind, sometimes with others, and wishes.
-fn content(r: &mut Random, c: &mut Circuit, kind: usize) -> (Vec<i32>, Vec<Vec<i32>>) {
+fn content(r: &mut Random, c: &mut Circuit, kind: usize) -> (Vec<i32>, Vec<Wish>) {
     if r.one_in(25) {
         unused(r, c);
     }
@@ -858,6 +921,17 @@ mod tests {
             tree_of(&format!("H 1 0; {doubling} R 200; Z 201")),
             u64::MAX
         );
+    }
+
+    /// Another plan would often be the answer if all wishes weighed the same.
+    #[test]
+    fn weights_decide() {
+        let decided = accepted(1, 6_000).filter(|planner| match planner.run(LIMIT).end {
+            End::Plan(plan) => planner.weights_decide(plan),
+            _ => false,
+        });
+        let count = decided.count();
+        assert!(count >= 100, "{count}");
     }
 
     /// Both verdicts come often, after short lists and after long ones.

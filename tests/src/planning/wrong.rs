@@ -49,32 +49,53 @@ impl Right {
         (0..self.planner.patterns()).collect()
     }
 
-    /// Whether another plan or cost comes out if a broken wish k counts this often.
-    fn not_counted(&self, times: impl Fn(usize) -> usize) -> bool {
-        let Right { planner, plan, .. } = self;
-        let wishes = &planner.sheet.wishes;
-        let cost = |plan: u32| -> usize {
-            let broken = (0..wishes.len()).filter(|&k| !planner.keeps(plan, &wishes[k]));
-            broken.map(&times).sum()
-        };
-        let another_cost = |plan: u32| cost(plan) != planner.cost(plan) as usize;
-        plan.is_some_and(another_cost)
+    /// Whether another plan or cost comes out if this is what a plan costs.
+    fn not_at(&self, cost: impl Fn(u32) -> u32) -> bool {
+        let another_cost = |plan: u32| cost(plan) != self.planner.cost(plan);
+        self.plan.is_some_and(another_cost)
             || self.not_best(&self.every_pattern(), |plan| (cost(plan), plan))
     }
 
+    /// The same if a broken wish k weighs this much.
+    fn not_weighed(&self, weight: impl Fn(usize) -> u32) -> bool {
+        let wishes = &self.planner.sheet.wishes;
+        self.not_at(|plan| {
+            let broken = (0..wishes.len()).filter(|&k| !self.planner.keeps(plan, &wishes[k]));
+            broken.map(&weight).sum()
+        })
+    }
+
+    /// The same if some of the wishes weigh nothing.
+    fn not_without(&self, left_out: impl Fn(usize) -> bool) -> bool {
+        self.not_weighed(|k| if left_out(k) { 0 } else { self.weight(k) })
+    }
+
+    fn literals(&self, k: usize) -> &[i32] {
+        &self.planner.sheet.wishes[k].literals
+    }
+
+    fn weight(&self, k: usize) -> u32 {
+        self.planner.sheet.wishes[k].weight
+    }
+
     fn set(&self, k: usize) -> BTreeSet<i32> {
-        self.planner.sheet.wishes[k].iter().copied().collect()
+        self.literals(k).iter().copied().collect()
+    }
+
+    /// The first wish with the literals of wish k, in any order.
+    fn first_of_set(&self, k: usize) -> usize {
+        let mut earlier = 0..k;
+        earlier.find(|&j| self.set(j) == self.set(k)).unwrap_or(k)
     }
 
     /// Whether wish k has the literals of an earlier one, in any order.
     fn same_set(&self, k: usize) -> bool {
-        (0..k).any(|earlier| self.set(earlier) == self.set(k))
+        self.first_of_set(k) < k
     }
 
-    /// Whether wish k is written as an earlier one.
+    /// Whether the literals of wish k are written as those of an earlier one.
     fn same_order(&self, k: usize) -> bool {
-        let wishes = &self.planner.sheet.wishes;
-        wishes[..k].contains(&wishes[k])
+        (0..k).any(|earlier| self.literals(earlier) == self.literals(k))
     }
 }
 
@@ -83,17 +104,34 @@ type Differs = fn(&Right) -> bool;
 
 /// The wrong planners.
 #[rustfmt::skip]
-const WRONG_PLANNERS: [(&str, Differs); 12] = [
-    ("a repeated wish left out", |right| right.not_counted(|k| usize::from(!right.same_set(k)))),
-    ("a repeated wish left out if written in the same order", |right| {
-        right.not_counted(|k| usize::from(!right.same_order(k)))
+const WRONG_PLANNERS: [(&str, Differs); 18] = [
+    ("the weights ignored", |right| right.not_weighed(|_| 1)),
+    ("the weight read from the columns of the third literal", |right| {
+        right.not_weighed(|k| right.literals(k).get(2).map_or(0, |l| l.unsigned_abs()))
     }),
-    ("a repeated wish left out unless written in the same order", |right| {
-        right.not_counted(|k| usize::from(!right.same_set(k) || right.same_order(k)))
+    ("the weight read from the next wish", |right| {
+        let last = right.planner.sheet.wishes.len().saturating_sub(1);
+        right.not_weighed(|k| right.weight(last.min(k + 1)))
     }),
-    ("a wish counted twice for a literal that it has twice", |right| {
-        right.not_counted(|k| 1 + right.planner.sheet.wishes[k].len() - right.set(k).len())
+    ("weights of 8 bits", |right| right.not_weighed(|k| right.weight(k) & 0xff)),
+    ("the sum over the kept wishes", |right| {
+        let all: u32 = right.planner.sheet.wishes.iter().map(|wish| wish.weight).sum();
+        right.not_at(|plan| all - right.planner.cost(plan))
     }),
+    ("the weight of a repeated wish dropped", |right| right.not_without(|k| right.same_set(k))),
+    ("the weight of a repeated wish dropped if written in the same order", |right| {
+        right.not_without(|k| right.same_order(k))
+    }),
+    ("the weight of a repeated wish dropped unless written in the same order", |right| {
+        right.not_without(|k| right.same_set(k) && !right.same_order(k))
+    }),
+    ("the weight of the first for a repeated wish", |right| {
+        right.not_weighed(|k| right.weight(right.first_of_set(k)))
+    }),
+    ("a wish counted twice for a literal that it has twice", |right| right.not_weighed(|k| {
+        let twice = right.literals(k).len() - right.set(k).len();
+        right.weight(k) * (1 + twice as u32)
+    })),
     ("the larger plan at equal cost", |right| {
         right.not_best(&right.every_pattern(), |plan| (right.planner.cost(plan), u32::MAX - plan))
     }),
@@ -178,7 +216,7 @@ fn wrong_planners_show() {
 /// The sheets that the wrong planners are shrunk from, for each so many.
 const SHRUNK: usize = 5;
 /// The lines of the largest sheet that is left.
-const MOST_LINES: usize = 7;
+const MOST_LINES: usize = 9;
 
 #[test]
 fn wrong_planners_are_shrunk() {

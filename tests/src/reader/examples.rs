@@ -1,10 +1,10 @@
 //! Sheets and texts with the tables that they give, or their refusals, worked out by hand.
 
 use planner_tests::form::Form;
-use planner_tests::generate::sheet;
+use planner_tests::generate::{sheet, without_fourth_numbers};
 use planner_tests::malformed::placed;
 use planner_tests::oracle::{Refusal, MAX_GATES, MAX_RULES, MAX_WISHES};
-use planner_tests::tables::Tables;
+use planner_tests::tables::{Tables, WISH};
 use planner_tests::typed::places;
 use planner_tests::SAMPLE;
 
@@ -50,7 +50,12 @@ fn refused(name: &str, bytes: Vec<u8>, number: u32, place: usize) -> Example {
 }
 
 /// Tables with these entries.
-fn tables(sizes: [u32; 2], gates: &[(u8, u32, u32)], rules: &[u32], wishes: &[[u32; 3]]) -> Tables {
+fn tables(
+    sizes: [u32; 2],
+    gates: &[(u8, u32, u32)],
+    rules: &[u32],
+    wishes: &[[u32; WISH]],
+) -> Tables {
     let mut tables = Tables {
         switches: sizes[0],
         faults: sizes[1],
@@ -69,12 +74,12 @@ fn tables(sizes: [u32; 2], gates: &[(u8, u32, u32)], rules: &[u32], wishes: &[[u
 
 fn sample_tables() -> Tables {
     let gates = [(b'O', 1, 2), (b'O', 3, 4), (b'O', 5, 6)];
-    tables([2, 2], &gates, &[7], &[[3, 0, 0], [5, 0, 0]])
+    tables([2, 2], &gates, &[7], &[[3, 0, 0, 1], [5, 0, 0, 1]])
 }
 
 /// A sheet with so many lines of each part.
 fn lines(gates: usize, rules: usize, wishes: usize) -> Vec<u8> {
-    let short = "A 1 3; ".repeat(gates) + &"R 3; ".repeat(rules) + &"W -1 2; ".repeat(wishes);
+    let short = "A 1 3; ".repeat(gates) + &"R 3; ".repeat(rules) + &"W -1 2 0 999; ".repeat(wishes);
     sheet(&format!("H 2 1; {short} Z {}", 1 + gates + rules + wishes))
 }
 
@@ -83,7 +88,7 @@ fn accepted_sheets() -> Vec<Example> {
         [2, 1],
         &[(b'A', 1, 3); MAX_GATES],
         &[3; MAX_RULES],
-        &[[3, 4, 0]; MAX_WISHES],
+        &[[3, 4, 0, 999]; MAX_WISHES],
     );
     vec![
         accepted("E2, the smallest sheet", sheet("H; Z 1"), Tables::default()),
@@ -111,16 +116,26 @@ fn accepted_sheets() -> Vec<Example> {
         ),
         accepted(
             "wishes of every length",
-            sheet("H 20 0; W -20 20 1; W 3 -3; W 1; W; Z 5"),
+            sheet("H 20 0; W -20 20 1 2; W 3 -3 0 999; W 1 0 0 30; W; Z 5"),
             tables(
                 [20, 0],
                 &[],
                 &[],
-                &[[41, 40, 2], [6, 7, 0], [2, 0, 0], [0; 3]],
+                &[[41, 40, 2, 2], [6, 7, 0, 999], [2, 0, 0, 30], [0, 0, 0, 1]],
             ),
         ),
         accepted(
-            "length 9,010, all limits met",
+            "equal wishes with different weights",
+            sheet("H 1 0; W -1 0 0 1; W -1 0 0 10; W -1 0 0 100; Z 4"),
+            tables(
+                [1, 0],
+                &[],
+                &[],
+                &[[3, 0, 0, 1], [3, 0, 0, 10], [3, 0, 0, 100]],
+            ),
+        ),
+        accepted(
+            "length 11,660, all limits met",
             lines(MAX_GATES, MAX_RULES, MAX_WISHES),
             full,
         ),
@@ -129,6 +144,7 @@ fn accepted_sheets() -> Vec<Example> {
 
 fn refused_sheets() -> Vec<Example> {
     let smallest = sheet("H; Z 1");
+    let twenty_two = sheet(&format!("H 1 0; {}Z 21", "W 1; ".repeat(20)));
     let one_more_byte = [&lines(MAX_GATES, MAX_RULES, MAX_WISHES)[..], b"\n"].concat();
     vec![
         refused("E1, the empty sheet", vec![], 1, 0),
@@ -144,13 +160,39 @@ fn refused_sheets() -> Vec<Example> {
         refused("E13, a wrong count", sheet("H; Z 2"), 7, 2),
         refused("E13, H alone", sheet("H"), 3, 1),
         refused("length 1", b"H".to_vec(), 1, 0),
-        refused("length 16", smallest[..16].to_vec(), 1, 0),
-        refused("length 17", smallest[..17].to_vec(), 3, 1),
-        refused("length 9,011", one_more_byte, 1, 0),
-        refused("length 9,027, gate 401", lines(401, 64, 64), 1, 0),
+        refused("length 21", smallest[..21].to_vec(), 1, 0),
+        refused("length 22", smallest[..22].to_vec(), 3, 1),
+        refused("length 11,661", one_more_byte, 1, 0),
+        refused("length 11,682, gate 401", lines(401, 64, 64), 1, 0),
         refused("gate 401", lines(401, 0, 0), 5, 402),
         refused("rule 65", lines(3, 65, 0), 5, 69),
         refused("wish 65", lines(3, 2, 65), 5, 71),
+        refused("a weight of 0", sheet("H 1 0; W 1; W 1 0 0 0; Z 3"), 14, 3),
+        refused("a weight of -1", sheet("H 1 0; W 1 0 0 -1; Z 2"), 14, 2),
+        refused("a weight of 1000", sheet("H 1 0; W 1 0 0 1000; Z 2"), 14, 2),
+        refused("a weight of 99999", sheet("H; W 0 0 0 99999; Z 2"), 14, 2),
+        refused(
+            "a weight of 0 and a wrong literal",
+            sheet("H 1 0; W 2 0 0 0; Z 2"),
+            6,
+            2,
+        ),
+        refused("a rule with a weight", sheet("H 1 0; R 1 0 0 1; Z 2"), 6, 2),
+        refused(
+            "two lines without a fourth number",
+            without_fourth_numbers(&smallest),
+            1,
+            0,
+        ),
+        Example {
+            name: "22 lines without a fourth number".into(),
+            bytes: without_fourth_numbers(&twenty_two),
+            expected: Err(Refusal {
+                number: 2,
+                place: 1,
+                column: 17,
+            }),
+        },
     ]
 }
 
@@ -182,7 +224,7 @@ fn accepted_texts() -> Vec<Example> {
             (b'O', 15, 5),
         ],
         &[13, 16],
-        &[[2, 0, 0], [5, 0, 0], [7, 0, 0]],
+        &[[2, 0, 0, 5], [5, 0, 0, 1], [7, 0, 0, 3]],
     );
     let of_three = |formula: &str, gates: &[(u8, u32, u32)], rule| {
         let text = format!("switches 3\nfaults 2\nrule {formula}\n");
@@ -201,9 +243,14 @@ fn accepted_texts() -> Vec<Example> {
             lane_four,
         ),
         accepted(
-            "literals",
-            "switches 20\nfaults 0\nwish !s20 s20 s1\nwish s3 !s3\nwish s1\n",
-            tables([20, 0], &[], &[], &[[41, 40, 2], [6, 7, 0], [2, 0, 0]]),
+            "literals and weights",
+            "switches 20\nfaults 0\nwish !s20 s20 s1 weight 999\nwish s3 !s3 weight 1\nwish s1\n",
+            tables(
+                [20, 0],
+                &[],
+                &[],
+                &[[41, 40, 2, 999], [6, 7, 0, 1], [2, 0, 0, 1]],
+            ),
         ),
         of_three("f2", &[], 5),
         of_three("s1|s2|s3", &[(b'O', 1, 2), (b'O', 6, 3)], 7),

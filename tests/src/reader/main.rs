@@ -17,10 +17,10 @@ use examples::Example;
 use planner_tests::cases::{self, Cases};
 use planner_tests::counts::{READ_SHEETS, READ_TEXTS};
 use planner_tests::form::Form;
-use planner_tests::generate::{string, Random, RECIPES};
+use planner_tests::generate::{has_short_lines, string, Random, RECIPES};
 use planner_tests::options::{ended, misused, Options};
 use planner_tests::oracle::{
-    BAD_FIELD, BAD_LENGTH, BAD_SIZE, LINE, MALFORMED, MAX_BYTES, TOO_MANY, WRONG_COUNT,
+    BAD_FIELD, BAD_LENGTH, BAD_SIZE, BAD_WEIGHT, LINE, MALFORMED, MAX_BYTES, TOO_MANY, WRONG_COUNT,
     WRONG_LETTER,
 };
 use planner_tests::reading::check::Trial;
@@ -81,6 +81,8 @@ fn made(form: Form, seed: u64, index: u64) -> (Vec<u8>, &'static str) {
 /// What came of one.
 struct Tried {
     length: usize,
+    /// Whether its lines have no fourth number.
+    short_lines: bool,
     outcome: Outcome,
     trouble: Option<String>,
 }
@@ -93,6 +95,7 @@ fn try_one(form: Form, seed: u64, index: u64, single: bool) -> Tried {
         let bytes = bytes.to_vec();
         on_stated_stack(move || Tried {
             length: bytes.len(),
+            short_lines: has_short_lines(&bytes),
             trouble: differs(form, &bytes, &trial).or_else(|| round_trip(form, &bytes, &trial)),
             outcome: trial.outcome,
         })
@@ -185,8 +188,10 @@ struct Tally {
     failed: u64,
     /// For each number: how many came, and at which places.
     numbers: BTreeMap<u32, (u64, BTreeSet<usize>)>,
-    /// For each column, 1 to 17: how many.
+    /// For each column, 1 to 22: how many.
     columns: [u64; LINE],
+    /// Strings whose lines have no fourth number: those of a wrong length, and the others.
+    short_lines: [u64; 2],
     longest_accepted: usize,
 }
 
@@ -199,6 +204,7 @@ const PLACES_IN_SHEETS: &[(u32, usize)] = &[
     (BAD_SIZE, 1),
     (TOO_MANY, 20),
     (BAD_FIELD, 20),
+    (BAD_WEIGHT, 20),
     (WRONG_COUNT, 20),
 ];
 const PLACES_IN_TEXTS: &[(u32, usize)] = &[
@@ -206,10 +212,13 @@ const PLACES_IN_TEXTS: &[(u32, usize)] = &[
     (BAD_SIZE, 2),
     (TOO_MANY, 10),
     (BAD_FIELD, 10),
+    (BAD_WEIGHT, 10),
     (NOT_LEGAL, 200),
 ];
 /// How many sheets have to be refused at each column.
 const FEWEST_IN_A_COLUMN: u64 = 15;
+/// How many without fourth numbers have to come, of a wrong length and of a right one.
+const FEWEST_OF_SHORT_LINES: u64 = 500;
 
 impl Tally {
     /// Adds one. Returns how many have failed so far.
@@ -223,6 +232,9 @@ impl Tally {
         places.insert(place);
         if column > 0 {
             self.columns[column - 1] += 1;
+        }
+        if tried.short_lines {
+            self.short_lines[usize::from(tried.length.is_multiple_of(LINE))] += 1;
         }
         if number == 0 {
             self.longest_accepted = self.longest_accepted.max(tried.length);
@@ -246,15 +258,17 @@ impl Tally {
         }
         if form == Form::Sheet {
             println!("columns: {:?}", self.columns);
+            let [wrong, right] = self.short_lines;
+            println!("without fourth numbers: {wrong} of a wrong length, {right} of a right one");
         }
         println!("longest accepted: {} bytes", self.longest_accepted);
     }
 
     /// A refusal that hardly came was hardly tested: that is a failure of its own.
     fn judge(&mut self, form: Form) {
-        let (fewest_places, columns) = match form {
-            Form::Sheet => (PLACES_IN_SHEETS, &self.columns[..]),
-            Form::Text => (PLACES_IN_TEXTS, &[][..]),
+        let (fewest_places, columns, short_lines) = match form {
+            Form::Sheet => (PLACES_IN_SHEETS, &self.columns[..], &self.short_lines[..]),
+            Form::Text => (PLACES_IN_TEXTS, &[][..], &[][..]),
         };
         let mut rare = Vec::new();
         for (number, fewest) in fewest_places {
@@ -266,6 +280,11 @@ impl Tally {
         for (before, came) in columns.iter().enumerate() {
             if *came < FEWEST_IN_A_COLUMN {
                 rare.push(format!("column {} came {came} times", before + 1));
+            }
+        }
+        for came in short_lines {
+            if *came < FEWEST_OF_SHORT_LINES {
+                rare.push(format!("lines without a fourth number came {came} times"));
             }
         }
         for what in rare {

@@ -160,11 +160,11 @@ mod tests {
     /// A sheet that fails if this line is on it.
     #[test]
     fn a_line_is_found() {
-        let short = "H 3 2; N 1; A 4 6; O 7 5; R 8; R 2; W -1 2; W 3; Z 8";
+        let short = "H 3 2; N 1; A 4 6; O 7 5; R 8; R 2; W -1 2; W 3 0 0 20; Z 8";
         let bytes = crate::generate::sheet(short);
         let has = |bytes: &[u8]| bytes.windows(6).any(|w| w == b"W    3");
         let small = shrunk_bytes(Form::Sheet, &bytes, has);
-        assert_eq!(small, crate::generate::sheet("W 3"));
+        assert_eq!(small, crate::generate::sheet("W 3 0 0 0"));
     }
 
     /// Whatever fails always fails as nothing.

@@ -6,8 +6,8 @@ use std::ops::Range;
 use std::rc::Rc;
 
 use super::{lower, ranges, renumbered, without};
-use crate::generate::Row;
-use crate::oracle::{self, FIELDS, LINE};
+use crate::generate::{has_short_lines, Row, SHORT_LINE};
+use crate::oracle::{self, FIELDS, LINE, LITERALS, WEIGHT};
 
 /// A line of a sheet.
 #[derive(Clone)]
@@ -87,7 +87,16 @@ pub fn smaller(bytes: &[u8]) -> impl Iterator<Item = Vec<u8>> + '_ {
         .chain(plain_bytes)
         .chain(lower_numbers);
     let smaller = all.map(|lines| written(&lines));
-    smaller.filter(move |less| less != bytes)
+    fewer_short_lines(bytes).chain(smaller.filter(move |less| less != bytes))
+}
+
+/// Without some lines, where these have no fourth number.
+fn fewer_short_lines(bytes: &[u8]) -> impl Iterator<Item = Vec<u8>> + '_ {
+    let lines: Vec<&[u8]> = match has_short_lines(bytes) {
+        true => bytes.chunks(SHORT_LINE).collect(),
+        false => Vec::new(),
+    };
+    ranges(lines.len()).map(move |range| without(&lines, range).concat())
 }
 
 /// What these lines are made into, for each of the places.
@@ -151,21 +160,21 @@ fn without_point(lines: &[Line], input: i32) -> Vec<Line> {
             Whole(Row {
                 letter: b'W',
                 fields,
-            }) if a_switch => leave_out_literal(fields, input),
+            }) if a_switch => leave_out_literal(&mut fields[..LITERALS], input),
             _ => {}
         }
     }
     left
 }
 
-fn leave_out_literal(literals: &mut [i32; FIELDS], switch: i32) {
-    let mut left = [0; FIELDS];
+fn leave_out_literal(literals: &mut [i32], switch: i32) {
+    let mut left = [0; LITERALS];
     let others = literals.iter().filter(|literal| literal.abs() != switch);
     for (to, literal) in left.iter_mut().zip(others) {
         let below = literal.abs() < switch;
         *to = literal - if below { 0 } else { literal.signum() };
     }
-    *literals = left;
+    literals.copy_from_slice(&left);
 }
 
 /// The plainest line of each kind in place of some. No number gets larger by that.
@@ -179,7 +188,7 @@ fn plain_lines(lines: &[Line], range: Range<usize>) -> Vec<Line> {
         match row.letter {
             b'N' | b'A' | b'O' => *row = Row::new(b'N', &[point]),
             b'R' => *row = Row::new(b'R', &[point]),
-            b'W' => *row = Row::new(b'W', &[]),
+            b'W' => *row = Row::wish(&[], row.fields[WEIGHT].min(1)),
             _ => {}
         }
     }
@@ -188,7 +197,7 @@ fn plain_lines(lines: &[Line], range: Range<usize>) -> Vec<Line> {
 
 /// A malformed line with one more byte of a plain one.
 fn plain_bytes(lines: &[Line], at: usize) -> Vec<Vec<Line>> {
-    const PLAIN: &[u8; LINE] = b"H    0    0    0\n";
+    const PLAIN: &[u8; LINE] = b"H    0    0    0    0\n";
     let Other(bytes) = &lines[at] else {
         return Vec::new();
     };
@@ -244,10 +253,17 @@ mod tests {
 
     #[test]
     fn inputs_left_out() {
-        let all = sheet("H 3 2; A 2 5; R 6; W 1 -2 -3; Z 4");
-        let no_switch = sheet("H 2 2; A 1 4; R 5; W 1 -2; Z 4");
+        let all = sheet("H 3 2; A 2 5; R 6; W 1 -2 -3 7; Z 4");
+        let no_switch = sheet("H 2 2; A 1 4; R 5; W 1 -2 0 7; Z 4");
         assert_eq!(without_input(&all, 2), no_switch);
-        let no_fault = sheet("H 3 1; A 2 4; R 5; W 1 -2 -3; Z 4");
+        let no_fault = sheet("H 3 1; A 2 4; R 5; W 1 -2 -3 7; Z 4");
         assert_eq!(without_input(&all, 4), no_fault);
+    }
+
+    #[test]
+    fn plain_wishes() {
+        let plain = |short| written(&plain_lines(&lines_of(&sheet(short)), 0..1));
+        assert_eq!(plain("W 1 2 3 40"), sheet("W"));
+        assert_eq!(plain("W 1 2 3 -40"), sheet("W 0 0 0 -40"));
     }
 }

@@ -4,7 +4,8 @@
 use std::ops::Range;
 
 use super::{lower, ranges, renumbered, Shrink};
-use crate::tables::Tables;
+use crate::oracle::{LITERALS, WEIGHT};
+use crate::tables::{Tables, WISH};
 
 impl Shrink for Tables {
     fn smaller(&self) -> Box<dyn Iterator<Item = Tables> + '_> {
@@ -53,7 +54,7 @@ fn plainer(tables: &Tables) -> impl Iterator<Item = Tables> + '_ {
     };
     let no_gates = move |range: Range<usize>| changed(&|t| t.gate[range.clone()].fill([0; 3]));
     let no_rules = move |range: Range<usize>| changed(&|t| t.rule[range.clone()].fill(0));
-    let no_wishes = move |range: Range<usize>| changed(&|t| t.wish[range.clone()].fill([0; 3]));
+    let no_wishes = move |range: Range<usize>| changed(&|t| t.wish[range.clone()].fill([0; WISH]));
     let plain_gates = move |range: Range<usize>| {
         changed(&|t| t.gate[range.clone()].iter_mut().for_each(plain_gate))
     };
@@ -61,12 +62,23 @@ fn plainer(tables: &Tables) -> impl Iterator<Item = Tables> + '_ {
         let plain = |rule: &mut u32| *rule = 1.min(*rule);
         changed(&|t| t.rule[range.clone()].iter_mut().for_each(plain))
     };
+    let plain_wishes = move |range: Range<usize>| {
+        changed(&|t| t.wish[range.clone()].iter_mut().for_each(plain_wish))
+    };
     ranges(gates)
         .map(no_gates)
         .chain(ranges(rules).map(no_rules))
         .chain(ranges(wishes).map(no_wishes))
         .chain(ranges(gates).map(plain_gates))
         .chain(ranges(rules).map(plain_rules))
+        .chain(ranges(wishes).map(plain_wishes))
+}
+
+/// No literal, and a weight that is right if it was.
+fn plain_wish(wish: &mut [u32; WISH]) {
+    let weight = wish[WEIGHT].min(1);
+    *wish = [0; WISH];
+    wish[WEIGHT] = weight;
 }
 
 fn plain_gate(gate: &mut [u32; 3]) {
@@ -124,7 +136,8 @@ fn without_input(tables: &Tables, input: u32) -> Tables {
         return left;
     }
     left.switches -= 1;
-    for word in left.wish.as_flattened_mut() {
+    let wishes = left.wish.iter_mut();
+    for word in wishes.flat_map(|wish| &mut wish[..LITERALS]) {
         let switch = *word / 2;
         *word -= if switch >= input && switch > 1 { 2 } else { 0 };
     }
@@ -137,7 +150,7 @@ fn cleared(tables: &Tables) -> Tables {
     let [gates, rules, wishes] = tables.held();
     left.gate[gates..].fill([0; 3]);
     left.rule[rules..].fill(0);
-    left.wish[wishes..].fill([0; 3]);
+    left.wish[wishes..].fill([0; WISH]);
     left
 }
 
@@ -164,13 +177,13 @@ mod tests {
         assert_eq!(without_gates(&all, 1..2), left);
         let left = tables("H 2 0; N 1; A 3 2; O 4 2; R 5; R 4; W -1; Z 7");
         assert_eq!(without_input(&all, 3), left);
-        let all = tables("H 3 0; W -1 3 -2; Z 2");
-        assert_eq!(without_input(&all, 2), tables("H 2 0; W -1 2 -1; Z 2"));
+        let all = tables("H 3 0; W -1 3 -2 9; Z 2");
+        assert_eq!(without_input(&all, 2), tables("H 2 0; W -1 2 -1 9; Z 2"));
     }
 
     #[test]
     fn every_number_is_made_smaller() {
-        let all = tables("H 2 1; O 1 3; R 4; W -2; Z 4");
+        let all = tables("H 2 1; O 1 3; R 4; W -2 0 0 20; Z 4");
         for at in 0..all.words().len() {
             let smaller = || all.smaller().any(|less| less.words()[at] < all.words()[at]);
             assert!(all.words()[at] == 0 || smaller(), "{at}");

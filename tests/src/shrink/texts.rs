@@ -161,14 +161,14 @@ fn operand_before(end: usize, sign: &dyn Fn(usize) -> u8) -> Option<usize> {
     Some(first)
 }
 
-/// A literal, with its not.
+/// A literal, with its not; and the weight, with its keyword.
 fn wish_parts(bytes: &[u8], words: &[Range<usize>], all: &mut Vec<Part>) {
     for (k, word) in words.iter().enumerate() {
         let first = match k.checked_sub(1).map(|before| &words[before]) {
-            Some(before) if sign(bytes, before) == b'!' => before.start,
+            Some(before) if b"!w".contains(&sign(bytes, before)) => before.start,
             _ => word.start,
         };
-        if sign(bytes, word) != b'!' {
+        if !b"!w".contains(&sign(bytes, word)) {
             all.push(Part::one(first..word.end));
         }
     }
@@ -214,7 +214,7 @@ mod tests {
             "( ! ( ! s1 | s2 ) )",
         ];
         for formula in formulas {
-            let text = format!("switches 3\nfaults 2\nrule {formula}\nwish !s1 s2 !s3\n");
+            let text = format!("switches 3\nfaults 2\nrule {formula}\nwish !s1 s2 !s3 weight 20\n");
             assert!(read(text.as_bytes()).is_ok());
             for left in left(&text) {
                 assert!(read(left.as_bytes()).is_ok(), "{left}");
@@ -226,5 +226,18 @@ mod tests {
     fn parts_of_wishes() {
         let left = left("wish s1 !s2 s30\n");
         assert_eq!(left, ["wish s1 s30\n", "wish s1 !s2\n", "wish !s2 s30\n"]);
+    }
+
+    #[test]
+    fn a_weight() {
+        let left = left("wish s1 !s2 weight 30\n");
+        assert_eq!(
+            left,
+            [
+                "wish s1 !s2\n",
+                "wish s1 weight 30\n",
+                "wish !s2 weight 30\n"
+            ]
+        );
     }
 }

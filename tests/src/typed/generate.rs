@@ -5,8 +5,10 @@ use std::ops::Range;
 
 use super::grammar::LEGAL;
 use super::{read, MAX_TEXT};
-use crate::generate::{odd_byte, Random};
-use crate::oracle::{Sheet, LITERALS, MAX_FAULTS, MAX_GATES, MAX_RULES, MAX_SWITCHES, MAX_WISHES};
+use crate::generate::{odd_byte, weight, Random};
+use crate::oracle::{
+    Sheet, Wish, LITERALS, MAX_FAULTS, MAX_GATES, MAX_RULES, MAX_SWITCHES, MAX_WEIGHT, MAX_WISHES,
+};
 use crate::planning::{class, light, whole, Class, Made};
 
 // ---- formulas
@@ -82,7 +84,7 @@ struct Draft {
     switches: u32,
     faults: u32,
     rules: Vec<Tree>,
-    wishes: Vec<Vec<i32>>,
+    wishes: Vec<Wish>,
 }
 
 /// A space at no place, and at every place.
@@ -113,9 +115,14 @@ impl Draft {
             }
             text += "\n";
         }
-        for wish in &self.wishes {
-            let literals: Vec<String> = wish.iter().copied().map(literal).collect();
-            text += &format!("wish {}\n", literals.join(" "));
+        for Wish { literals, weight } in &self.wishes {
+            let literals: Vec<String> = literals.iter().copied().map(literal).collect();
+            text += &format!("wish {}", literals.join(" "));
+            // A weight of 1 may be left out.
+            if *weight != 1 || r.one_in(3) {
+                text += &format!(" weight {weight}");
+            }
+            text += "\n";
         }
         text.into_bytes()
     }
@@ -164,20 +171,37 @@ impl Draft {
         }
     }
 
-    fn wish(&self, r: &mut Random) -> Vec<i32> {
-        let literals = 1 + r.below(LITERALS);
-        (0..literals)
-            .map(|_| {
-                let switch = r.between(1, self.switches.max(1) as i32);
-                r.pick(&[switch, -switch])
-            })
-            .collect()
+    fn wish(&self, r: &mut Random) -> Wish {
+        let literals = (0..1 + r.below(LITERALS)).map(|_| {
+            let switch = r.between(1, self.switches.max(1) as i32);
+            r.pick(&[switch, -switch])
+        });
+        Wish {
+            literals: literals.collect(),
+            weight: if r.one_in(3) { 1 } else { weight(r) as u32 },
+        }
     }
 
     fn some_wishes(&mut self, r: &mut Random, count: usize) {
         self.wishes = (0..count).map(|_| self.wish(r)).collect();
     }
 }
+
+/// The wish for one literal to hold.
+fn plain(literal: i32) -> Wish {
+    Wish {
+        literals: vec![literal],
+        weight: 1,
+    }
+}
+
+/// Weights at the ends of what is allowed and of what is legal.
+const WEIGHTS_AROUND: [u32; 7] = {
+    const MORE: u32 = MAX_WEIGHT + 1;
+    [0, 0, 1, MAX_WEIGHT, MORE, MORE, MAX_LEGAL]
+};
+/// The largest weight of a legal text.
+const MAX_LEGAL: u32 = 9_999;
 
 fn literal(literal: i32) -> String {
     let sign = if literal < 0 { "!" } else { "" };
@@ -199,7 +223,7 @@ fn of_sheet(r: &mut Random, sheet: &Sheet) -> Draft {
         wishes: sheet
             .wishes
             .iter()
-            .filter(|wish| !wish.is_empty())
+            .filter(|wish| !wish.literals.is_empty())
             .cloned()
             .collect(),
     }
@@ -347,8 +371,10 @@ fn crowded(r: &mut Random) -> Vec<u8> {
     let after = r.below(3);
     if r.one_in(3) {
         draft.some_wishes(r, MAX_WISHES - before);
-        draft.wishes.push(vec![-(beyond as i32)]);
-        draft.wishes.extend(vec![vec![1]; before + after]);
+        let mut wrong = plain(r.pick(&[1, -(beyond as i32)]));
+        wrong.weight = r.pick(&WEIGHTS_AROUND);
+        draft.wishes.push(wrong);
+        draft.wishes.extend(vec![plain(1); before + after]);
     } else {
         draft.rules.clear();
         if r.one_in(2) {
@@ -399,10 +425,11 @@ fn long(r: &mut Random) -> Vec<u8> {
     }
     let wishes = r.below(MAX_WISHES);
     draft.some_wishes(r, wishes);
-    while draft.spaced(r, spaces).len() > length && !draft.rules.is_empty() {
-        draft.rules.pop();
-    }
     let mut bytes = draft.spaced(r, spaces);
+    while bytes.len() > length && !draft.rules.is_empty() {
+        draft.rules.pop();
+        bytes = draft.spaced(r, spaces);
+    }
     fill(&mut bytes, length);
     bytes
 }
@@ -462,8 +489,8 @@ fn beyond(r: &mut Random) -> Vec<u8> {
         if r.one_in(3) {
             let mut wish = draft.wish(r);
             let switch = number(r, draft.switches) as i32;
-            let at = r.below(wish.len());
-            wish[at] = r.pick(&[switch, -switch]);
+            let at = r.below(wish.literals.len());
+            wish.literals[at] = r.pick(&[switch, -switch]);
             let at = r.below(draft.wishes.len() + 1);
             draft.wishes.insert(at, wish);
         } else {
@@ -480,6 +507,36 @@ fn beyond(r: &mut Random) -> Vec<u8> {
             draft.rules.insert(at, tree);
         }
     }
+    draft.written(r)
+}
+
+/// Wishes whose weights are right, but for some of them.
+fn weights(r: &mut Random) -> Vec<u8> {
+    let mut draft = small_draft(r);
+    draft.switches = draft.switches.max(1);
+    let count = 1 + r.below(6);
+    draft.some_wishes(r, count);
+    for _ in 0..1 + r.below(2) {
+        let at = r.below(count);
+        draft.wishes[at].weight = match r.below(4) {
+            0 => r.below(MAX_LEGAL as usize + 1) as u32,
+            _ => r.pick(&WEIGHTS_AROUND),
+        };
+    }
+    draft.written(r)
+}
+
+/// A wrong weight, and a switch beyond the counts on the same line or after it.
+fn weights_and_switches(r: &mut Random) -> Vec<u8> {
+    let mut draft = small_draft(r);
+    draft.switches = draft.switches.max(1);
+    let count = 2 + r.below(4);
+    draft.some_wishes(r, count);
+    let beyond = draft.switches as i32 + 1;
+    let heavy = r.below(count);
+    let wrong = heavy + r.below(count - heavy);
+    draft.wishes[heavy].weight = r.pick(&[0, MAX_WEIGHT + 1]);
+    draft.wishes[wrong].literals[0] = r.pick(&[beyond, -beyond]);
     draft.written(r)
 }
 
@@ -500,13 +557,15 @@ fn noise(r: &mut Random) -> Vec<u8> {
 
 /// Words and signs in any order.
 fn words(r: &mut Random) -> Vec<u8> {
-    const WORDS: [&str; 20] = [
+    const WORDS: [&str; 22] = [
         "switches ",
         "faults ",
         "rule ",
         "wish ",
         "rule s1",
         "wish s1",
+        " weight ",
+        "weight",
         "\n",
         "\n",
         " ",
@@ -688,18 +747,68 @@ fn number(r: &mut Random, bytes: &mut Vec<u8>) {
     }
 }
 
-fn literal_more(r: &mut Random, bytes: &mut Vec<u8>) {
+/// Writes a wish anew: from its literals, and its weight with the space before it. If there is no wish, one
+/// is added.
+fn rewrite_wish(bytes: &mut Vec<u8>, r: &mut Random, again: fn(&mut Random, &str, &str) -> String) {
     let wishes: Vec<Range<usize>> = lines(bytes)
         .into_iter()
         .filter(|line| bytes[line.clone()].starts_with(b"wish"))
         .collect();
-    let text = r.pick(&[" s1", " !s1", " s1 !s1", "s1"]);
-    match any(r, &wishes) {
-        Some(line) => {
-            bytes.splice(line.end - 1..line.end - 1, text.bytes());
+    let line = any(r, &wishes).unwrap_or_else(|| {
+        let from = bytes.len();
+        bytes.extend(b"wish s1 s1\n");
+        from..bytes.len()
+    });
+    let text = String::from_utf8_lossy(&bytes[line.clone()]).into_owned();
+    let text = text.trim_end_matches('\n');
+    let weight = text.find(" weight").unwrap_or(text.len());
+    let (literals, weight) = text.split_at(weight);
+    let again = again(r, literals, weight) + "\n";
+    bytes.splice(line, again.into_bytes());
+}
+
+fn literal_more(r: &mut Random, bytes: &mut Vec<u8>) {
+    rewrite_wish(bytes, r, |r, literals, weight| {
+        let there = literals.split_whitespace().count().saturating_sub(1);
+        // One too many, if it is not more.
+        let missing = (LITERALS + 1).saturating_sub(there);
+        match r.below(6) {
+            0 => format!("{literals}{weight}{}", r.pick(&[" s1", " !s1", "s1"])),
+            1 => format!("{literals}{}{weight}", r.pick(&[" s1", " !s1", "s1"])),
+            _ => format!("{literals}{}{weight}", " s1".repeat(missing + r.below(2))),
         }
-        None => bytes.extend(format!("wish s1 s1{text}\n").bytes()),
-    }
+    });
+}
+
+/// A number that is no weight.
+fn weight_number(r: &mut Random, bytes: &mut Vec<u8>) {
+    rewrite_wish(bytes, r, |r, literals, _| {
+        let number = match r.below(4) {
+            0 => r.pick(&["00", "01", "007", "0999", "01000"]),
+            1 => r.pick(&["", "-1", "+1", "1.5", "s1"]),
+            _ => r.pick(&["10000", "12345", "99999", "100000"]),
+        };
+        format!("{literals} weight {number}")
+    });
+}
+
+/// What may stand before a weight, after it or in its place.
+fn weight_place(r: &mut Random, bytes: &mut Vec<u8>) {
+    const ENDINGS: [&str; 9] = [
+        "  weight 2",
+        " weight  2",
+        " weight 2 s1",
+        " weight 2 weight 3",
+        " weigh",
+        " weight",
+        " weights 2",
+        "weight 2",
+        " 2",
+    ];
+    rewrite_wish(bytes, r, |r, literals, _| match r.below(4) {
+        0 => literals.replacen("wish", "wish weight 2", 1),
+        _ => format!("{literals}{}", r.pick(&ENDINGS)),
+    });
 }
 
 fn several(r: &mut Random, bytes: &mut Vec<u8>) {
@@ -726,7 +835,7 @@ use Recipe::{Damage, Whole};
 
 /// What a text is made by, one after another by its index. Half of all are the texts of sheets that
 /// make the planner work, which stand apart.
-const RECIPES: [(&str, Recipe); 25] = [
+const RECIPES: [(&str, Recipe); 29] = [
     ("small", Whole(small)),
     ("deep", Whole(deep)),
     ("full", Whole(full)),
@@ -734,6 +843,8 @@ const RECIPES: [(&str, Recipe); 25] = [
     ("long", Whole(long)),
     ("counts", Whole(counts)),
     ("beyond the counts", Whole(beyond)),
+    ("weights", Whole(weights)),
+    ("weights and switches", Whole(weights_and_switches)),
     ("noise", Whole(noise)),
     ("words", Whole(words)),
     ("a byte inserted", Damage(insert)),
@@ -751,9 +862,11 @@ const RECIPES: [(&str, Recipe); 25] = [
     ("a sign", Damage(sign)),
     ("a number", Damage(number)),
     ("a literal more", Damage(literal_more)),
+    ("the number of a weight", Damage(weight_number)),
+    ("the place of a weight", Damage(weight_place)),
     ("several damages", Damage(several)),
 ];
-const FIRST_DAMAGE: usize = 9;
+const FIRST_DAMAGE: usize = 11;
 const DAMAGES: usize = RECIPES.len() - FIRST_DAMAGE;
 
 const PLANNING: &str = "planning";

@@ -7,6 +7,8 @@
 
 use std::ops::Range;
 
+use crate::oracle::LITERALS;
+
 /// What may be written. The number is the depth: open brackets, and nots whose operand is not
 /// complete.
 #[derive(Clone, Copy, Debug, PartialEq, Eq)]
@@ -16,6 +18,7 @@ enum Thing {
     Rule,
     Wish,
     Literal,
+    Weight,
     Count,
     Number,
     Or(usize),
@@ -34,7 +37,7 @@ enum Part {
 }
 
 use Part::{Byte, MaySpace, Of};
-use Thing::{And, Count, Literal, Number, Operand, Or, Rule, Ruled, Text, Wish};
+use Thing::{And, Count, Literal, Number, Operand, Or, Rule, Ruled, Text, Weight, Wish};
 
 /// What a grammar can have otherwise, so that wrong ones can be tried too.
 #[derive(Clone, Copy)]
@@ -43,6 +46,11 @@ pub struct Bounds {
     pub deepest: usize,
     pub leading_zeros: bool,
     pub space_before_line_feed: bool,
+    /// The most literals and the most digits of a weight.
+    pub literals: usize,
+    pub weight_digits: usize,
+    /// Whether a weight may stand alone, before the literals or between them.
+    pub weight_anywhere: bool,
 }
 
 /// The bounds of legal texts.
@@ -50,6 +58,9 @@ pub const LEGAL: Bounds = Bounds {
     deepest: 32,
     leading_zeros: false,
     space_before_line_feed: false,
+    literals: LITERALS,
+    weight_digits: 4,
+    weight_anywhere: false,
 };
 
 /// How far a text goes.
@@ -81,7 +92,7 @@ struct Item {
 }
 
 /// Things without a depth.
-const FLAT: [Thing; 7] = [Text, Ruled, Rule, Wish, Literal, Count, Number];
+const FLAT: [Thing; 8] = [Text, Ruled, Rule, Wish, Literal, Weight, Count, Number];
 const DEEP: [fn(usize) -> Thing; 3] = [Or, And, Operand];
 
 /// A thing's own number.
@@ -118,15 +129,20 @@ fn shapes(thing: Thing, bounds: Bounds) -> Vec<Vec<Part>> {
             vec![[switches, faults].concat(), vec![Of(Ruled), Of(Rule)]]
         }
         Rule => vec![feed([word("rule "), vec![Of(Or(0))]].concat())],
-        Wish => {
-            let one = [word("wish "), vec![Of(Literal)]].concat();
-            let two = [one.clone(), vec![Byte(b" "), Of(Literal)]].concat();
-            let three = [two.clone(), vec![Byte(b" "), Of(Literal)]].concat();
-            [one, two, three].map(feed).to_vec()
-        }
+        Wish => wishes(bounds).into_iter().map(feed).collect(),
         Literal => {
             let plain = vec![Byte(b"s"), Of(Number)];
             vec![plain.clone(), [vec![Byte(b"!")], plain].concat()]
+        }
+        Weight => {
+            let first = Byte(b"123456789");
+            let digits = |n: usize| [vec![first], vec![digit; n - 1]].concat();
+            let numbers = (1..=bounds.weight_digits).map(digits);
+            let mut ways: Vec<Vec<Part>> = [vec![Byte(b"0")]].into_iter().chain(numbers).collect();
+            if bounds.leading_zeros {
+                ways.push(vec![Byte(b"0"), first]);
+            }
+            ways
         }
         Count => vec![vec![Byte(b"0")], vec![Of(Number)]],
         Number => {
@@ -155,6 +171,28 @@ fn shapes(thing: Thing, bounds: Bounds) -> Vec<Vec<Part>> {
             ways
         }
     }
+}
+
+/// Every way to write a wish, up to its line feed: its literals, and its weight or none.
+fn wishes(bounds: Bounds) -> Vec<Vec<Part>> {
+    let weight = [word("weight "), vec![Of(Weight)]].concat();
+    let mut ways = Vec::new();
+    for literals in 1..=bounds.literals {
+        let words = vec![vec![Of(Literal)]; literals];
+        let with_weight = |at: usize| {
+            let mut words = words.clone();
+            words.insert(at, weight.clone());
+            words
+        };
+        let first = if bounds.weight_anywhere { 0 } else { literals };
+        ways.push(words.clone());
+        ways.extend((first..=literals).map(with_weight));
+    }
+    if bounds.weight_anywhere {
+        ways.push(vec![weight]);
+    }
+    let wish = |words: Vec<Vec<Part>>| [word("wish "), words.join(&Byte(b" "))].concat();
+    ways.into_iter().map(wish).collect()
 }
 
 impl Grammar {

@@ -12,8 +12,8 @@ mod wrong;
 use std::sync::OnceLock;
 
 use crate::oracle::{
-    Gate, Refusal, Sheet, BAD_FIELD, BAD_SIZE, MAX_FAULTS, MAX_GATES, MAX_RULES, MAX_SWITCHES,
-    MAX_WISHES, TOO_MANY,
+    Gate, Refusal, Sheet, Wish, BAD_FIELD, BAD_SIZE, BAD_WEIGHT, MAX_FAULTS, MAX_GATES, MAX_RULES,
+    MAX_SWITCHES, MAX_WISHES, TOO_MANY, WEIGHTS,
 };
 use formula::{Formula, Manner, Operand, LEFT};
 use grammar::{Bounds, Grammar, LEGAL};
@@ -67,7 +67,7 @@ struct Value {
     switches: u32,
     faults: u32,
     rules: Vec<Formula>,
-    wishes: Vec<Vec<i32>>,
+    wishes: Vec<Wish>,
 }
 
 /// Reads a legal text.
@@ -87,10 +87,27 @@ fn value(bytes: &[u8], manner: Manner) -> Value {
         rules: said("rule")
             .map(|line| formula::read(line.as_bytes(), manner))
             .collect(),
-        wishes: said("wish")
-            .map(|line| line.split_whitespace().map(literal).collect())
-            .collect(),
+        wishes: said("wish").map(wish).collect(),
     }
+}
+
+/// The weight is 1 where it is missing.
+fn wish(line: &str) -> Wish {
+    let mut wish = Wish {
+        literals: Vec::new(),
+        weight: 1,
+    };
+    let mut words = line.split_whitespace();
+    while let Some(word) = words.next() {
+        match word {
+            "weight" => {
+                let number = words.next().expect("a number");
+                wish.weight = number.parse().expect("a number");
+            }
+            _ => wish.literals.push(literal(word)),
+        }
+    }
+    wish
 }
 
 /// `s4` is 4, and `!s4` is -4.
@@ -134,8 +151,12 @@ fn tables(value: &Value, most_gates: usize) -> Result<Sheet, Refusal> {
         if sheet.wishes.len() == MAX_WISHES {
             return refuse(TOO_MANY, line);
         }
-        if wish.iter().any(|l| l.unsigned_abs() > sheet.switches) {
+        let beyond = |literal: &i32| literal.unsigned_abs() > sheet.switches;
+        if wish.literals.iter().any(beyond) {
             return refuse(BAD_FIELD, line);
+        }
+        if !WEIGHTS.contains(&wish.weight) {
+            return refuse(BAD_WEIGHT, line);
         }
         sheet.wishes.push(wish.clone());
     }
@@ -205,7 +226,7 @@ mod tests {
     use super::places::placed;
     use super::*;
     use crate::brute::listing_of;
-    use crate::oracle;
+    use crate::oracle::{self, LITERALS, MAX_WEIGHT};
     use std::collections::{BTreeMap, BTreeSet};
 
     /// The gates of one rule over 3 switches and 2 faults, as "A 1 2", and the rule's point.
@@ -264,7 +285,13 @@ mod tests {
         let count = |bracket| line.iter().filter(|&&byte| byte == bracket).count();
         let close = ")".repeat(count(b'(').saturating_sub(count(b')'))) + "\n";
         let (rule, and) = (format!("rule s1{close}"), format!("&s1{close}"));
-        let ends = ["switches 0\nfaults 0\n", &rule, &and, "wish s1\n"];
+        let ends = [
+            "switches 0\nfaults 0\n",
+            &rule,
+            &and,
+            "wish s1\n",
+            " weight 1\n",
+        ];
         let ended = |end: &[u8]| right_grammar().reach(&[beginning, end].concat()).legal;
         ends.iter()
             .any(|end| (0..=end.len()).any(|from| ended(&end.as_bytes()[from..])))
@@ -338,13 +365,19 @@ mod tests {
     }
 
     #[test]
-    fn literals_and_counts() {
-        let text = b"switches 20\nfaults 16\nrule s20&f16\nwish !s1 s20\nwish s3\nwish s1 s1 !s1\n";
+    fn literals_weights_and_counts() {
+        let text = b"switches 20\nfaults 16\nrule s20&f16\n\
+            wish !s1 s20\nwish s3 weight 999\nwish s1 s1 !s1 weight 10\n";
         let sheet = read(text).unwrap();
         assert_eq!((sheet.switches, sheet.faults), (20, 16));
         assert_eq!(sheet.rules, [37]);
         assert_eq!(sheet.gates[0].right, 36);
-        assert_eq!(sheet.wishes, [vec![-1, 20], vec![3], vec![1, 1, -1]]);
+        let wish = |literals: &[i32], weight| Wish {
+            literals: literals.to_vec(),
+            weight,
+        };
+        let wishes = [wish(&[-1, 20], 1), wish(&[3], 999), wish(&[1, 1, -1], 10)];
+        assert_eq!(sheet.wishes, wishes);
         let twice = read(b"switches 1\nfaults 0\nrule !s1\nrule !s1\n").unwrap();
         assert_eq!((twice.gates.len(), &twice.rules[..]), (2, &[2, 3][..]));
     }
@@ -365,7 +398,8 @@ mod tests {
         let mut made: BTreeMap<&str, usize> = BTreeMap::new();
         let mut places = BTreeSet::new();
         let (mut reached, mut passed, mut longest, mut too_long) = (0, 0, 0, 0);
-        for index in 0..6_000 {
+        let mut weights = [0; 4];
+        for index in 0..8_000 {
             let text = typed_text(1, index);
             let outcome = read(&text.bytes);
             let depth = depth(&text.bytes);
@@ -374,13 +408,26 @@ mod tests {
             longest += usize::from(outcome.is_ok() && text.bytes.len() == MAX_TEXT);
             too_long += usize::from(text.bytes.len() == MAX_TEXT + 1);
             *made.entry(text.kind).or_default() += 1;
+            let wishes = outcome.iter().flat_map(|sheet| &sheet.wishes);
+            for Wish { literals, weight } in wishes {
+                let kinds = [
+                    *weight == 1,
+                    *weight == MAX_WEIGHT,
+                    (2..MAX_WEIGHT).contains(weight),
+                    *weight > 1 && literals.len() == LITERALS,
+                ];
+                for (count, is_it) in weights.iter_mut().zip(kinds) {
+                    *count += usize::from(is_it);
+                }
+            }
             let number = outcome.as_ref().map_or_else(|r| r.number, |_| 0);
             *numbers.entry(number).or_default() += 1;
             places.extend(outcome.err().map(|refusal| refusal.place));
         }
-        for number in [0, BAD_SIZE, TOO_MANY, BAD_FIELD, NOT_LEGAL] {
+        for number in [0, BAD_SIZE, TOO_MANY, BAD_FIELD, BAD_WEIGHT, NOT_LEGAL] {
             assert!(numbers[&number] >= 60, "{numbers:?}");
         }
+        assert!(weights.iter().all(|&n| n >= 500), "{weights:?}");
         assert!(kinds().all(|kind| made[kind] >= 80), "{made:?}");
         assert!(places.len() >= 250, "{}", places.len());
         assert!(reached >= 100 && passed >= 100, "{reached}, {passed}");

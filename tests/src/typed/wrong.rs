@@ -9,64 +9,133 @@ use super::grammar::{Bounds, Grammar, LEGAL};
 use super::{all_there, legal, read, refuse, tables, value, Value, FAULTS_LINE, NOT_LEGAL};
 use crate::brute::Planner;
 use crate::form::Form;
-use crate::oracle::{Gate, Refusal, Sheet, BAD_FIELD, BAD_SIZE, MAX_FAULTS, MAX_GATES, TOO_MANY};
+use crate::oracle::{
+    Gate, Refusal, Sheet, Wish, BAD_FIELD, BAD_SIZE, BAD_WEIGHT, LITERALS, MAX_FAULTS, MAX_GATES,
+    MAX_WEIGHT, TOO_MANY, WEIGHTS,
+};
 use crate::planning::light;
 use crate::shrink::shrunk_bytes;
 
 type Read = Result<Sheet, Refusal>;
 
-type Reader = fn(&[u8]) -> Read;
+/// A text, and what the right reader makes of it.
+#[derive(Clone, Copy)]
+struct Text<'a> {
+    bytes: &'a [u8],
+    right: &'a Read,
+}
+
+type Reader = fn(Text) -> Read;
 
 /// The wrong readers.
 #[rustfmt::skip]
-const WRONG: [(&str, Reader); 15] = [
-    ("a depth of 33 let through", |b| within(b, Bounds { deepest: 33, ..LEGAL })),
-    ("a depth of 32 refused", |b| within(b, Bounds { deepest: 31, ..LEGAL })),
-    ("a leading zero let through", |b| within(b, Bounds { leading_zeros: true, ..LEGAL })),
-    ("a space let through before the line feed", |b| {
-        within(b, Bounds { space_before_line_feed: true, ..LEGAL })
+const WRONG: [(&str, Reader); 25] = [
+    ("a depth of 33 let through", |t| within(t, Bounds { deepest: 33, ..LEGAL })),
+    ("a depth of 32 refused", |t| within(t, Bounds { deepest: 31, ..LEGAL })),
+    ("a leading zero let through", |t| within(t, Bounds { leading_zeros: true, ..LEGAL })),
+    ("a space let through before the line feed", |t| {
+        within(t, Bounds { space_before_line_feed: true, ..LEGAL })
     }),
-    ("and binds looser than or", |b| said(b, Manner { loosest_first: *b"&|", ..LEFT })),
-    (FROM_THE_RIGHT, |b| said(b, Manner { from_the_right: true, ..LEFT })),
-    (OTHER_ORDER, |b| said(b, Manner { order: Operator::sign_at, ..LEFT })),
-    ("the place one too small", |b| told(b, |place| place - 1)),
-    ("the place one too large", |b| told(b, |place| place + 1)),
-    ("the end of a text told as its last byte", |b| told(b, |place| place.min(b.len()))),
-    ("the line told for the byte", |b| {
-        told(b, |place| 1 + b[..place - 1].iter().filter(|&&byte| byte == b'\n').count())
+    ("a fourth literal let through", |t| within(t, Bounds { literals: LITERALS + 1, ..LEGAL })),
+    ("a weight of five digits let through", |t| within(t, Bounds { weight_digits: 5, ..LEGAL })),
+    ("a weight of four digits not legal", |t| within(t, Bounds { weight_digits: 3, ..LEGAL })),
+    ("a weight let through anywhere in a wish", |t| {
+        within(t, Bounds { weight_anywhere: true, ..LEGAL })
     }),
-    ("gates shared", |b| otherwise(b, shared)),
-    ("faults looked at before switches", |b| otherwise(b, faults_first)),
-    ("6 looked for on all lines before 5", |b| otherwise(b, sixes_first)),
-    ("any point for a switch", |b| otherwise(b, any_point)),
+    ("and binds looser than or", |t| said(t, Manner { loosest_first: *b"&|", ..LEFT })),
+    (FROM_THE_RIGHT, |t| said(t, Manner { from_the_right: true, ..LEFT })),
+    (OTHER_ORDER, |t| said(t, Manner { order: Operator::sign_at, ..LEFT })),
+    ("the place one too small", |t| told(t, |place| place - 1)),
+    ("the place one too large", |t| told(t, |place| place + 1)),
+    ("the end of a text told as its last byte", |t| told(t, |place| place.min(t.bytes.len()))),
+    ("the line told for the byte", |t| {
+        told(t, |place| 1 + t.bytes[..place - 1].iter().filter(|&&byte| byte == b'\n').count())
+    }),
+    ("gates shared", |t| otherwise(t, shared)),
+    ("faults looked at before switches", |t| otherwise(t, faults_first)),
+    (SIXES_FIRST, |t| otherwise(t, sixes_first)),
+    ("any point for a switch", |t| otherwise(t, any_point)),
+    ("a missing weight taken as 0", |t| {
+        // A weight that stands there is left.
+        let text = String::from_utf8_lossy(t.bytes);
+        let lines = text.split_inclusive('\n').filter(|line| line.starts_with("wish"));
+        let missing: Vec<bool> = lines.map(|line| !line.contains("weight")).collect();
+        weighed(t, |k, weight| if missing[k] { 0 } else { weight })
+    }),
+    ("the weights ignored", |t| weighed(t, |_, _| 1)),
+    ("weight 0 let through", |t| weighed(t, |_, weight| weight.max(1))),
+    ("weight 1000 let through", |t| weighed(t, |_, weight| {
+        if weight == MAX_WEIGHT + 1 { MAX_WEIGHT } else { weight }
+    })),
+    ("14 looked for before 6", |t| otherwise(t, weights_before_literals)),
+    (AFTER_ALL, |t| otherwise(t, |value| match tables(value, MAX_GATES) {
+        Err(first) if first.number == BAD_WEIGHT => {
+            let others = tables(&with_weights(value, |_, _| 1), MAX_GATES);
+            Err(others.err().unwrap_or(first))
+        }
+        other => other,
+    })),
 ];
 
+const SIXES_FIRST: &str = "6 looked for on all lines before 5";
+const AFTER_ALL: &str = "14 looked for after all lines";
 /// Those that no job shows, as the rules mean the same.
 const FROM_THE_RIGHT: &str = "grouping from the right";
 const OTHER_ORDER: &str = "gates in the order of the signs";
 
 /// Legal by another grammar.
-fn within(bytes: &[u8], bounds: Bounds) -> Read {
-    legal(bytes, &Grammar::new(bounds))?;
-    tables(&value(bytes, LEFT), MAX_GATES)
+fn within(text: Text, bounds: Bounds) -> Read {
+    legal(text.bytes, &Grammar::new(bounds))?;
+    tables(&value(text.bytes, LEFT), MAX_GATES)
 }
 
 /// Legal texts, read in another manner.
-fn said(bytes: &[u8], manner: Manner) -> Read {
-    otherwise(bytes, |_| tables(&value(bytes, manner), MAX_GATES))
+fn said(text: Text, manner: Manner) -> Read {
+    otherwise(text, |_| tables(&value(text.bytes, manner), MAX_GATES))
 }
 
 /// Legal texts, for which another outcome is told.
-fn otherwise(bytes: &[u8], outcome: impl Fn(&Value) -> Read) -> Read {
-    match read(bytes) {
-        Err(refusal) if refusal.number == NOT_LEGAL => Err(refusal),
-        _ => outcome(&value(bytes, LEFT)),
+fn otherwise(text: Text, outcome: impl Fn(&Value) -> Read) -> Read {
+    match text.right {
+        Err(refusal) if refusal.number == NOT_LEGAL => Err(*refusal),
+        _ => outcome(&value(text.bytes, LEFT)),
     }
 }
 
+/// Legal texts, with other weights: the wish's place, counted from 0, and its weight give the new one.
+fn weighed(text: Text, weight: impl Fn(usize, u32) -> u32) -> Read {
+    otherwise(text, |value| {
+        tables(&with_weights(value, &weight), MAX_GATES)
+    })
+}
+
+fn with_weights(value: &Value, weight: impl Fn(usize, u32) -> u32) -> Value {
+    let mut value = value.clone();
+    for (k, wish) in value.wishes.iter_mut().enumerate() {
+        wish.weight = weight(k, wish.weight);
+    }
+    value
+}
+
+/// A line whose literals and weight are both wrong is refused for its weight.
+fn weights_before_literals(value: &Value) -> Read {
+    tables(value, MAX_GATES).map_err(|refusal| {
+        let wishes_from = FAULTS_LINE + value.rules.len() + 1;
+        let wish = refusal.place.checked_sub(wishes_from);
+        let wrong = |wish: usize| !WEIGHTS.contains(&value.wishes[wish].weight);
+        match refusal.number {
+            BAD_FIELD if wish.is_some_and(wrong) => Refusal {
+                number: BAD_WEIGHT,
+                ..refusal
+            },
+            _ => refusal,
+        }
+    })
+}
+
 /// The place of a text that is not legal told in another way.
-fn told(bytes: &[u8], place: impl Fn(usize) -> usize) -> Read {
-    read(bytes).map_err(|refusal| match refusal {
+fn told(text: Text, place: impl Fn(usize) -> usize) -> Read {
+    text.right.clone().map_err(|refusal| match refusal {
         Refusal {
             number: NOT_LEGAL,
             place: 1..,
@@ -131,7 +200,8 @@ fn sixes_first(value: &Value) -> Read {
     };
     let rules = value.rules.iter().map(|formula| all_there(formula, &sheet));
     let is_there = |literal: &i32| literal.unsigned_abs() <= sheet.switches;
-    let wishes = value.wishes.iter().map(|wish| wish.iter().all(is_there));
+    let all_are = |wish: &Wish| wish.literals.iter().all(is_there);
+    let wishes = value.wishes.iter().map(all_are);
     match rules.chain(wishes).position(|line| !line) {
         Some(before) => refuse(BAD_FIELD, FAULTS_LINE + 1 + before),
         None => right,
@@ -151,11 +221,18 @@ fn any_point(value: &Value) -> Read {
     tables(&more, MAX_GATES)
 }
 
-/// What the jobs show of a text: the refusal, or how Answer ends and what it lists.
+/// The room for the list that Answer gets.
+const ROOM: usize = 50;
+
+/// What the jobs show of a text: the refusal, or what Answer returns and lists.
 fn shown(outcome: &Read) -> String {
     match outcome {
         Err(refusal) => format!("{refusal:?}"),
-        Ok(sheet) if light(sheet) => format!("{:?}", Planner::new(sheet.clone()).run(50)),
+        Ok(sheet) if light(sheet) => {
+            let planner = Planner::new(sheet.clone());
+            let run = planner.run(ROOM);
+            format!("{:?} {run:?}", planner.answer(&run, ROOM))
+        }
         Ok(_) => "accepted".into(),
     }
 }
@@ -166,11 +243,15 @@ fn wrong_readings_show() {
     // For each reader: the texts of which it gives other tables or another refusal, and those of
     // which the jobs show it.
     let mut counts = [(0, 0); WRONG.len()];
-    for index in 0..6_000 {
+    for index in 0..8_000 {
         let bytes = typed_text(3, index).bytes;
         let right = read(&bytes);
+        let text = Text {
+            bytes: &bytes,
+            right: &right,
+        };
         for ((name, wrong), count) in WRONG.iter().zip(&mut counts) {
-            let wrong = wrong(&bytes);
+            let wrong = wrong(text);
             if wrong != right {
                 count.0 += 1;
                 count.1 += usize::from(!unseen.contains(name) && shown(&wrong) != shown(&right));
@@ -179,6 +260,8 @@ fn wrong_readings_show() {
     }
     for ((name, _), (differ, seen)) in WRONG.iter().zip(counts) {
         println!("{differ:>5} texts, {seen:>5} by what the jobs show: {name}");
+    }
+    for ((name, _), (differ, seen)) in WRONG.iter().zip(counts) {
         assert!(differ >= 50, "{name}: {differ}");
         assert!(seen >= 50 || unseen.contains(name), "{name}: {seen}");
     }
@@ -192,18 +275,31 @@ const MOST_BYTES: usize = 60;
 const MOST_OF_A_DEEP_ONE: usize = 100;
 const MOST_OF_A_FULL_ONE: usize = 1_400;
 
+/// Texts among which some show each mistake.
+const MADE: u64 = 1_500;
+
 #[test]
 fn wrong_readings_are_shrunk() {
+    let texts = (0..MADE).map(|index| typed_text(3, index).bytes);
+    let texts: Vec<(Vec<u8>, Read)> = texts
+        .map(|bytes| {
+            let right = read(&bytes);
+            (bytes, right)
+        })
+        .collect();
     for (name, wrong) in WRONG {
-        let shows = |bytes: &[u8]| wrong(bytes) != read(bytes);
+        let differs = |bytes: &[u8], right: &Read| wrong(Text { bytes, right }) != *right;
+        let shows = |bytes: &[u8]| differs(bytes, &read(bytes));
         let most = match name {
-            "6 looked for on all lines before 5" => MOST_OF_A_FULL_ONE,
+            SIXES_FIRST | AFTER_ALL => MOST_OF_A_FULL_ONE,
             _ if name.contains("depth") => MOST_OF_A_DEEP_ONE,
             _ => MOST_BYTES,
         };
-        let made = (0..).map(|index| typed_text(3, index).bytes);
-        for bytes in made.filter(|bytes| shows(bytes)).take(SHRUNK) {
-            let small = shrunk_bytes(Form::Text, &bytes, shows);
+        let shown = texts.iter().filter(|(bytes, right)| differs(bytes, right));
+        let shown: Vec<_> = shown.take(SHRUNK).collect();
+        assert_eq!(shown.len(), SHRUNK, "{name}");
+        for (bytes, _) in shown {
+            let small = shrunk_bytes(Form::Text, bytes, shows);
             println!("{:>5} bytes of {:>5}: {name}", small.len(), bytes.len());
             assert!(shows(&small), "{name}");
             let text = small.escape_ascii();

@@ -2,7 +2,9 @@
 
 use super::{Written, TOO_SHORT};
 use crate::generate::sheet;
-use crate::oracle::{BAD_FIELD, BAD_SIZE, MAX_BYTES, MAX_GATES, MAX_RULES, MAX_WISHES, TOO_MANY};
+use crate::oracle::{
+    BAD_FIELD, BAD_SIZE, BAD_WEIGHT, MAX_BYTES, MAX_GATES, MAX_RULES, MAX_WISHES, TOO_MANY,
+};
 use crate::tables::Tables;
 
 pub struct Case {
@@ -38,9 +40,9 @@ impl Case {
 }
 
 /// The sheet of [`base`].
-const BASE: &str = "H 2 1; N 3; A 1 4; O 5 2; R 6; R 1; W 1 -2 2; W -1; W; Z 9";
+const BASE: &str = "H 2 1; N 3; A 1 4; O 5 2; R 6; R 1; W 1 -2 2 999; W -1 0 0 20; W; Z 9";
 /// Its length.
-const NEED: usize = 170;
+const NEED: usize = 220;
 
 const N: u32 = b'N' as u32;
 const A: u32 = b'A' as u32;
@@ -59,7 +61,7 @@ fn base() -> Tables {
     };
     tables.gate[..3].copy_from_slice(&[[N, 3, 0], [A, 1, 4], [O, 5, 2]]);
     tables.rule[..2].copy_from_slice(&[6, 1]);
-    tables.wish[..3].copy_from_slice(&[[2, 5, 4], [3, 0, 0], [0, 0, 0]]);
+    tables.wish[..3].copy_from_slice(&[[2, 5, 4, 999], [3, 0, 0, 20], [0, 0, 0, 1]]);
     tables
 }
 
@@ -78,7 +80,7 @@ fn many(gates: u32, rules: u32, wishes: u32) -> Tables {
         *gate = [O, left, 1];
     }
     tables.rule[..rules].fill(436);
-    tables.wish[..wishes].fill([41, 40, 2]);
+    tables.wish[..wishes].fill([41, 40, 2, 999]);
     tables
 }
 
@@ -90,7 +92,7 @@ fn full() -> Tables {
 fn full_sheet() -> String {
     let gates: String = (36..436).map(|left| format!("O {left} 1; ")).collect();
     let rules = "R 436; ".repeat(MAX_RULES);
-    let wishes = "W -20 20 1; ".repeat(MAX_WISHES);
+    let wishes = "W -20 20 1 999; ".repeat(MAX_WISHES);
     format!("H 20 16; {gates}{rules}{wishes}Z 529")
 }
 
@@ -136,8 +138,19 @@ const REFUSED: &[Refused] = &[
     ("a rule that is 0", |t| t.rules = 3, BAD_FIELD, 7),
     ("2^32 - 1 gates", |t| t.gates = u32::MAX, BAD_FIELD, 5),
     ("2^16 + 2 rules", |t| t.rules = 0x1_0002, BAD_FIELD, 7),
-    // Wishes that are all 0 are right ones.
-    ("2^32 - 1 wishes", |t| t.wishes = u32::MAX, TOO_MANY, 71),
+    ("a wish that is all 0", |t| t.wishes = 4, BAD_WEIGHT, 10),
+    ("2^32 - 1 wishes", |t| t.wishes = u32::MAX, BAD_WEIGHT, 10),
+    ("a weight of 0", |t| t.wish[0][3] = 0, BAD_WEIGHT, 7),
+    ("a weight of 1000", |t| t.wish[1][3] = 1_000, BAD_WEIGHT, 8),
+    ("a weight of 0 of an empty wish", |t| t.wish[2][3] = 0, BAD_WEIGHT, 9),
+    ("a weight of 2^16 + 1", |t| t.wish[1][3] = 0x1_0001, BAD_WEIGHT, 8),
+    ("a weight of 2^31 + 1", |t| t.wish[1][3] = 0x8000_0001, BAD_WEIGHT, 8),
+    ("a weight of 2^32 - 1, which is -1", |t| t.wish[0][3] = u32::MAX, BAD_WEIGHT, 7),
+    ("two wrong weights", |t| (t.wish[1][3], t.wish[2][3]) = (0, 0), BAD_WEIGHT, 8),
+    ("a weight of 0, and a literal wrong before it", |t| t.wish[0] = [2, 0, 2, 0], BAD_FIELD, 7),
+    ("a weight of 1000, and -0 before it", |t| t.wish[1] = [1, 0, 0, 1_000], BAD_FIELD, 8),
+    ("a weight of 0, and the next wish wrong", |t| (t.wish[0][3], t.wish[1][0]) = (0, 1), BAD_WEIGHT, 7),
+    ("a weight of 0, and a rule wrong before it", |t| (t.wish[0][3], t.rule[1]) = (0, 9), BAD_FIELD, 6),
     ("a wrong wish, and a rule wrong before it", |t| (t.wish[0][0], t.rule[1]) = (1, 9), BAD_FIELD, 6),
     ("405 gates", |t| *t = many(405, 0, 0), TOO_MANY, 402),
     ("405 gates, the third wrong", |t| {
@@ -165,10 +178,15 @@ const REFUSED: &[Refused] = &[
     }, BAD_FIELD, 401),
     ("65 rules and 65 wishes", |t| *t = many(400, 65, 65), TOO_MANY, 466),
     ("65 wishes on full tables", |t| *t = many(400, 64, 65), TOO_MANY, 530),
+    ("2^32 - 1 wishes of which all in the room are right", |t| *t = many(0, 0, u32::MAX), TOO_MANY, 66),
     ("65 wishes, the 64th wrong", |t| {
         *t = many(400, 64, 65);
         t.wish[63][1] = 42;
     }, BAD_FIELD, 529),
+    ("65 wishes, the weight of the 64th wrong", |t| {
+        *t = many(400, 64, 65);
+        t.wish[63][3] = 0;
+    }, BAD_WEIGHT, 529),
     ("a rule without any point", |t| {
         *t = Tables { rules: 1, ..Tables::default() };
         t.rule[0] = 1;
@@ -189,16 +207,23 @@ const WRITTEN: &[Right] = &[
     ("the largest sizes", |t| {
         *t = Tables { switches: 20, faults: 16, ..Tables::default() }
     }, "H 20 16; Z 1"),
-    ("an empty wish without switches", |t| *t = Tables { wishes: 1, ..Tables::default() }, "H; W; Z 2"),
+    ("an empty wish without switches", |t| {
+        *t = Tables { wishes: 1, ..Tables::default() };
+        t.wish[0][3] = 7;
+    }, "H; W 0 0 0 7; Z 2"),
     ("a gate that names a point twice", |t| t.gate[1] = [A, 4, 4],
-        "H 2 1; N 3; A 4 4; O 5 2; R 6; R 1; W 1 -2 2; W -1; W; Z 9"),
+        "H 2 1; N 3; A 4 4; O 5 2; R 6; R 1; W 1 -2 2 999; W -1 0 0 20; W; Z 9"),
     ("fewer gates and rules than there are", |t| (t.gates, t.rules) = (2, 0),
-        "H 2 1; N 3; A 1 4; W 1 -2 2; W -1; W; Z 6"),
+        "H 2 1; N 3; A 1 4; W 1 -2 2 999; W -1 0 0 20; W; Z 6"),
     ("wrong entries after the counted ones", |t| {
         t.gate[3..].fill([0, u32::MAX, 5]);
         t.rule[2..].fill(99);
-        t.wish[3..].fill([0, 1, 5]);
+        t.wish[3..].fill([0, 1, 5, 0]);
     }, BASE),
+    ("equal wishes with different weights", |t| {
+        *t = Tables { switches: 1, wishes: 3, ..Tables::default() };
+        t.wish[..3].copy_from_slice(&[[3, 0, 0, 1], [3, 0, 0, 10], [3, 0, 0, 100]]);
+    }, "H 1 0; W -1 0 0 1; W -1 0 0 10; W -1 0 0 100; Z 4"),
     ("no count, and entries", |t| (t.gates, t.rules, t.wishes) = (0, 0, 0), "H 2 1; Z 1"),
 ];
 

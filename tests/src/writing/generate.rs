@@ -1,8 +1,10 @@
 //! Tables for the comparison: right ones, tables damaged in many ways, and noise. Tables follow from
 //! their seed and index alone, so each can be made again.
 
-use crate::generate::{point, size, string, Random};
-use crate::oracle::{read, LITERALS, MAX_FAULTS, MAX_GATES, MAX_RULES, MAX_SWITCHES, MAX_WISHES};
+use crate::generate::{point, size, string, weight, Random};
+use crate::oracle::{
+    read, LITERALS, MAX_FAULTS, MAX_GATES, MAX_RULES, MAX_SWITCHES, MAX_WEIGHT, MAX_WISHES, WEIGHT,
+};
 use crate::planning::planning_sheet;
 use crate::tables::Tables;
 
@@ -81,10 +83,15 @@ fn of_counts(r: &mut Random, [gates, rules, wishes]: Counts) -> Tables {
         *rule = point(r, inputs + gates as i32) as u32;
     }
     for wish in &mut tables.wish[..wishes] {
-        let literals = if switches == 0 { 0 } else { r.below(4) };
+        let literals = if switches == 0 {
+            0
+        } else {
+            r.below(LITERALS + 1)
+        };
         for word in &mut wish[..literals] {
             *word = literal(r, tables.switches);
         }
+        wish[WEIGHT] = weight(r) as u32;
     }
     tables
 }
@@ -197,6 +204,24 @@ fn damage_rule(r: &mut Random, tables: &mut Tables) {
     };
 }
 
+/// A weight at the ends of what is allowed, beyond, or far from it in a way that narrower numbers do not show.
+fn telling_weight(r: &mut Random, weight: u32) -> u32 {
+    match r.below(3) {
+        0 => near(r, weight),
+        _ => r.pick(&[0, 1, MAX_WEIGHT, MAX_WEIGHT + 1, u32::MAX]),
+    }
+}
+
+fn damage_weight(r: &mut Random, tables: &mut Tables) {
+    let [_, _, held] = tables.held();
+    if held == 0 {
+        return;
+    }
+    let wish = &mut tables.wish[r.place(held)];
+    wish[WEIGHT] = telling_weight(r, wish[WEIGHT]);
+}
+
+/// A literal that is wrong, and perhaps the weight besides.
 fn damage_wish(r: &mut Random, tables: &mut Tables) {
     let [_, _, held] = tables.held();
     if held == 0 {
@@ -210,29 +235,37 @@ fn damage_wish(r: &mut Random, tables: &mut Tables) {
     // Literals that are right, if there is a switch.
     let [a, b] = [2, 3].map(|lowest| lowest.max(last + r.below(2) as u32));
     let wish = &mut tables.wish[i];
+    if r.one_in(6) {
+        wish[WEIGHT] = telling_weight(r, wish[WEIGHT]);
+    }
+    let literals = &mut wish[..LITERALS];
+    let shapes = [
+        [0, a, 0],
+        [0, 0, a],
+        [a, 0, b],
+        [0, a, b],
+        [MINUS_ZERO, 0, 0],
+        [a, b, MINUS_ZERO],
+    ];
     match r.below(14) {
-        0 => *wish = [0, a, 0],
-        1 => *wish = [0, 0, a],
-        2 => *wish = [a, 0, b],
-        3 => *wish = [0, a, b],
-        4 => *wish = [MINUS_ZERO, 0, 0],
-        5 => *wish = [a, b, MINUS_ZERO],
+        n if n < shapes.len() => literals.copy_from_slice(&shapes[n]),
         n => {
             let word = match n {
                 6 => near(r, last),
                 _ => r.pick(&telling),
             };
-            let used = wish.iter().filter(|&&word| word != 0).count();
-            wish[r.below((used + 1).min(LITERALS))] = word;
+            let used = literals.iter().filter(|&&word| word != 0).count();
+            literals[r.below((used + 1).min(LITERALS))] = word;
         }
     }
 }
 
 fn damage_word(r: &mut Random, tables: &mut Tables) {
-    match r.below(3) {
+    match r.below(4) {
         0 => damage_gate(r, tables),
         1 => damage_rule(r, tables),
-        _ => damage_wish(r, tables),
+        2 => damage_wish(r, tables),
+        _ => damage_weight(r, tables),
     }
 }
 
@@ -311,6 +344,10 @@ fn noise(r: &mut Random) -> Tables {
     let mask = r.pick(&masks);
     let wishes = tables.wish[..8].as_flattened_mut();
     wishes.fill_with(|| r.word() & mask);
+    if r.one_in(2) {
+        let wishes = tables.wish[..8].iter_mut();
+        wishes.for_each(|wish| wish[WEIGHT] = weight(r) as u32);
+    }
     tables
 }
 
@@ -321,12 +358,13 @@ type Damage = fn(&mut Random, &mut Tables);
 
 /// What tables are made by, one after another by their index, so that each comes equally often.
 #[rustfmt::skip]
-const RECIPES: [(&str, Recipe); 13] = [
+const RECIPES: [(&str, Recipe); 14] = [
     ("right", right),
     ("right, and entries after the counted ones", |r| damaged(r, right, &[add_junk])),
     ("one gate", |r| damaged(r, with_entries, &[damage_gate])),
     ("one rule", |r| damaged(r, with_entries, &[damage_rule])),
     ("one wish", |r| damaged(r, with_entries, &[damage_wish])),
+    ("one weight", |r| damaged(r, with_entries, &[damage_weight])),
     ("a word of full tables", |r| if r.one_in(4) { full(r) } else { damaged(r, full, &[damage_word]) }),
     ("the sizes", |r| damaged(r, right, &[damage_size])),
     ("beyond a limit", beyond),
@@ -354,10 +392,11 @@ fn damaged(r: &mut Random, from: Recipe, damages: &[Damage]) -> Tables {
 
 /// Two to four damages of every kind.
 fn several(r: &mut Random) -> Tables {
-    const DAMAGES: [Damage; 7] = [
+    const DAMAGES: [Damage; 8] = [
         damage_gate,
         damage_rule,
         damage_wish,
+        damage_weight,
         damage_word,
         damage_count,
         damage_size,
@@ -395,7 +434,7 @@ pub fn made_tables(seed: u64, index: u64) -> Made {
 #[cfg(test)]
 mod tests {
     use super::*;
-    use crate::oracle::{BAD_FIELD, BAD_SIZE, MAX_BYTES, TOO_MANY};
+    use crate::oracle::{BAD_FIELD, BAD_SIZE, BAD_WEIGHT, MAX_BYTES, TOO_MANY};
     use crate::writing::sheet;
     use std::collections::BTreeMap;
 
@@ -413,7 +452,7 @@ mod tests {
     /// one seed.
     #[test]
     fn every_recipe_does_its_part() {
-        let mut numbers: BTreeMap<&str, [u32; 7]> = BTreeMap::new();
+        let mut numbers: BTreeMap<&str, [u32; BAD_WEIGHT as usize + 1]> = BTreeMap::new();
         let mut longest = 0;
         for index in 0..20_000 {
             let made = made_tables(1, index);
@@ -441,6 +480,7 @@ mod tests {
             }
             let part = match kind {
                 "the sizes" => BAD_SIZE,
+                "one weight" => BAD_WEIGHT,
                 _ => BAD_FIELD,
             };
             assert!(of(part) >= 200, "{kind}: {came:?}");

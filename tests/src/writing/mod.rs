@@ -8,8 +8,8 @@ pub mod generate;
 mod wrong;
 
 use crate::oracle::{
-    Refusal, BAD_FIELD, BAD_SIZE, COLUMNS, LITERALS, MAX_FAULTS, MAX_GATES, MAX_RULES,
-    MAX_SWITCHES, MAX_WISHES, TOO_MANY,
+    Refusal, BAD_FIELD, BAD_SIZE, BAD_WEIGHT, COLUMNS, FIELDS, MAX_FAULTS, MAX_GATES, MAX_RULES,
+    MAX_SWITCHES, MAX_WISHES, TOO_MANY, WEIGHTS,
 };
 use crate::tables::{word_of, Tables};
 
@@ -36,15 +36,15 @@ fn refuse<T>(number: u32, place: usize) -> Result<T, Refusal> {
     })
 }
 
-/// Makes the line of an entry, counted from 0; none if the entry is not allowed.
-type Entry = fn(&Tables, usize) -> Option<String>;
+/// Makes the line of an entry, counted from 0, or tells the number that it is refused with.
+type Entry = fn(&Tables, usize) -> Result<String, u32>;
 
 /// The sheet of these tables. A line is tested where it would stand: after those before it.
 pub fn sheet(tables: &Tables) -> Outcome {
     if tables.switches > MAX_SWITCHES as u32 || tables.faults > MAX_FAULTS as u32 {
         return refuse(BAD_SIZE, 1);
     }
-    let mut lines = vec![line('H', [tables.switches as i32, tables.faults as i32, 0])];
+    let mut lines = vec![line('H', &[tables.switches as i32, tables.faults as i32])];
     let parts: [(u32, usize, Entry); 3] = [
         (tables.gates, MAX_GATES, gate),
         (tables.rules, MAX_RULES, rule),
@@ -57,50 +57,64 @@ pub fn sheet(tables: &Tables) -> Outcome {
                 return refuse(TOO_MANY, place);
             }
             match entry(tables, i) {
-                Some(line) => lines.push(line),
-                None => return refuse(BAD_FIELD, place),
+                Ok(line) => lines.push(line),
+                Err(number) => return refuse(number, place),
             }
         }
     }
-    lines.push(line('Z', [lines.len() as i32, 0, 0]));
+    lines.push(line('Z', &[lines.len() as i32]));
     Ok(lines.concat().into_bytes())
 }
 
-fn line(letter: char, [first, second, third]: [i32; 3]) -> String {
-    format!("{letter}{first:>COLUMNS$}{second:>COLUMNS$}{third:>COLUMNS$}\n")
+/// A line with these numbers, and zeros after them.
+fn line(letter: char, used: &[i32]) -> String {
+    let mut fields = [0; FIELDS];
+    fields[..used.len()].copy_from_slice(used);
+    let [a, b, c, d] = fields;
+    format!("{letter}{a:>COLUMNS$}{b:>COLUMNS$}{c:>COLUMNS$}{d:>COLUMNS$}\n")
 }
 
-fn gate(tables: &Tables, i: usize) -> Option<String> {
+fn gate(tables: &Tables, i: usize) -> Result<String, u32> {
     let [kind, left, right] = tables.gate[i];
-    let kind = u8::try_from(kind).ok()?;
+    let kind = u8::try_from(kind).map_err(|_| BAD_FIELD)?;
     let points_before = 1..=tables.switches + tables.faults + i as u32;
     let right_allowed = match kind {
         b'N' => right == 0,
         b'A' | b'O' => points_before.contains(&right),
         _ => false,
     };
-    let allowed = right_allowed && points_before.contains(&left);
-    allowed.then(|| line(kind.into(), [left as i32, right as i32, 0]))
+    if !right_allowed || !points_before.contains(&left) {
+        return Err(BAD_FIELD);
+    }
+    Ok(line(kind.into(), &[left as i32, right as i32]))
 }
 
 /// All gates stand before a rule.
-fn rule(tables: &Tables, i: usize) -> Option<String> {
+fn rule(tables: &Tables, i: usize) -> Result<String, u32> {
     let point = tables.rule[i];
     let points = 1..=tables.switches + tables.faults + tables.gates;
-    let allowed = points.contains(&point);
-    allowed.then(|| line('R', [point as i32, 0, 0]))
+    match points.contains(&point) {
+        true => Ok(line('R', &[point as i32])),
+        false => Err(BAD_FIELD),
+    }
 }
 
-fn wish(tables: &Tables, i: usize) -> Option<String> {
-    let mut fields = [0; LITERALS];
-    for (field, word) in fields.iter_mut().zip(tables.wish[i]) {
-        *field = match word {
-            0 => 0,
-            _ => literals(tables.switches).find(|&l| word_of(l) == word)?,
-        };
+fn wish(tables: &Tables, i: usize) -> Result<String, u32> {
+    let [first, second, third, weight] = tables.wish[i];
+    let number = |word: u32| match word {
+        0 => Ok(0),
+        _ => literals(tables.switches)
+            .find(|&l| word_of(l) == word)
+            .ok_or(BAD_FIELD),
+    };
+    let [first, second, third] = [number(first)?, number(second)?, number(third)?];
+    if (first == 0 && second != 0) || (second == 0 && third != 0) {
+        return Err(BAD_FIELD);
     }
-    let after_zero = fields.windows(2).any(|two| two[0] == 0 && two[1] != 0);
-    (!after_zero).then(|| line('W', fields))
+    if !WEIGHTS.contains(&weight) {
+        return Err(BAD_WEIGHT);
+    }
+    Ok(line('W', &[first, second, third, weight as i32]))
 }
 
 /// All literals that there are with so many switches.
@@ -161,30 +175,32 @@ mod tests {
             (k, 0) => Some(k),
             (k, _) => Some(-k).filter(|&n| (MIN_NUMBER..0).contains(&n)),
         };
-        let head = [field(tables.switches)?, field(tables.faults)?, 0];
-        let mut lines = vec![line('H', head)];
+        let head = [field(tables.switches)?, field(tables.faults)?];
+        let mut lines = vec![line('H', &head)];
         let more = [u32::from(b'N'), 1, 0];
         for [kind, left, right] in entries(&tables.gate, tables.gates, more)? {
             let kind = u8::try_from(kind)
                 .ok()
                 .filter(|kind| b"NAO".contains(kind))?;
-            lines.push(line(kind.into(), [field(left)?, field(right)?, 0]));
+            lines.push(line(kind.into(), &[field(left)?, field(right)?]));
         }
         for point in entries(&tables.rule, tables.rules, 1)? {
-            lines.push(line('R', [field(point)?, 0, 0]));
+            lines.push(line('R', &[field(point)?]));
         }
-        for [first, second, third] in entries(&tables.wish, tables.wishes, [0; LITERALS])? {
-            let fields = [literal(first)?, literal(second)?, literal(third)?];
-            lines.push(line('W', fields));
+        let more = [0, 0, 0, 1];
+        for [first, second, third, weight] in entries(&tables.wish, tables.wishes, more)? {
+            let literals = [literal(first)?, literal(second)?, literal(third)?];
+            let fields = [&literals[..], &[field(weight)?]].concat();
+            lines.push(line('W', &fields));
         }
-        lines.push(line('Z', [lines.len() as i32, 0, 0]));
+        lines.push(line('Z', &[lines.len() as i32]));
         (lines.len() <= MAX_LINES).then(|| lines.concat().into_bytes())
     }
 
     /// Tables are tested as the reader tests the sheet that they would give.
     #[test]
     fn as_the_reader() {
-        let mut outcomes = [0; 14];
+        let mut outcomes = [0; BAD_WEIGHT as usize + 1];
         for index in 0..12_000 {
             let tables = made_tables(1, index).tables;
             let Some(bytes) = lines_of(&tables) else {
@@ -205,7 +221,7 @@ mod tests {
                 Err(refusal) => outcomes[refusal.number as usize] += 1,
             }
         }
-        for number in [0, BAD_SIZE, TOO_MANY, BAD_FIELD] {
+        for number in [0, BAD_SIZE, TOO_MANY, BAD_FIELD, BAD_WEIGHT] {
             assert!(outcomes[number as usize] >= 300, "{outcomes:?}");
         }
     }

@@ -6,34 +6,51 @@ use super::generate::{made_tables, MINUS_ZERO};
 use super::{line, put, refuse, sheet, Outcome, Written, TOO_SHORT};
 use crate::generate::Random;
 use crate::oracle::{
-    BAD_FIELD, BAD_SIZE, LINE, MAX_BYTES, MAX_FAULTS, MAX_GATES, MAX_RULES, MAX_SWITCHES,
-    MAX_WISHES, TOO_MANY,
+    BAD_FIELD, BAD_SIZE, BAD_WEIGHT, COLUMNS, LINE, LITERALS, MAX_BYTES, MAX_FAULTS, MAX_GATES,
+    MAX_RULES, MAX_SWITCHES, MAX_WEIGHT, MAX_WISHES, TOO_MANY, WEIGHT, WEIGHTS,
 };
 use crate::shrink::shrunk;
 use crate::tables::Tables;
 
-/// What tables give, and how it is put into the buffer.
+/// A writer: what tables give by it, or how it puts that into the buffer.
 struct Wrong {
     name: &'static str,
-    sheet: fn(&Tables) -> Outcome,
-    put: fn(&Tables, &Outcome, &mut [u8]) -> Written,
+    mistake: Mistake,
+}
+
+enum Mistake {
+    Sheet(fn(&Tables) -> Outcome),
+    Put(fn(&Tables, &Outcome, &mut [u8]) -> Written),
 }
 
 const fn tested(name: &'static str, sheet: fn(&Tables) -> Outcome) -> Wrong {
-    Wrong {
-        name,
-        sheet,
-        put: |_, outcome, out| put(outcome, out),
-    }
+    let mistake = Mistake::Sheet(sheet);
+    Wrong { name, mistake }
 }
 
 const fn placed(name: &'static str, put: fn(&Tables, &Outcome, &mut [u8]) -> Written) -> Wrong {
-    Wrong { name, sheet, put }
+    let mistake = Mistake::Put(put);
+    Wrong { name, mistake }
+}
+
+impl Wrong {
+    /// Whether the trial of these tables shows it.
+    fn shows(&self, tables: &Tables, trial: &Trial) -> bool {
+        let differs =
+            |writer: &mut dyn FnMut(&mut [u8]) -> Written| trial.differs(writer).is_some();
+        match self.mistake {
+            Mistake::Sheet(sheet) => {
+                let given = sheet(tables);
+                given != trial.outcome && differs(&mut |out| put(&given, out))
+            }
+            Mistake::Put(put) => differs(&mut |out| put(tables, &trial.outcome, out)),
+        }
+    }
 }
 
 /// The wrong writers.
 #[rustfmt::skip]
-const WRONG: [Wrong; 26] = [
+const WRONG: [Wrong; 36] = [
     tested("the second word of N not looked at", |t| changed(t, |t| {
         t.gate.iter_mut().filter(|gate| gate[0] == u32::from(b'N')).for_each(|gate| gate[2] = 0);
     })),
@@ -41,7 +58,39 @@ const WRONG: [Wrong; 26] = [
         if word == MINUS_ZERO { 0 } else { word }
     }))),
     tested("a literal after a 0 let through", |t| changed(t, |t| {
-        t.wish.iter_mut().for_each(|wish| wish.sort_by_key(|&word| word == 0));
+        t.wish.iter_mut().for_each(|wish| wish[..LITERALS].sort_by_key(|&word| word == 0));
+    })),
+    tested("the weight not looked at", |t| changed(t, |t| each_weight(t, |weight| {
+        weight.clamp(1, MAX_WEIGHT)
+    }))),
+    tested("weight 0 let through", |t| changed(t, |t| each_weight(t, |weight| weight.max(1)))),
+    tested("weight 1000 let through", |t| changed(t, |t| each_weight(t, |weight| {
+        if weight == MAX_WEIGHT + 1 { MAX_WEIGHT } else { weight }
+    }))),
+    tested("weights of 16 bits", |t| changed(t, |t| each_weight(t, |weight| weight & 0xffff))),
+    tested("14 before 6 on a line", fourteen_before_six),
+    tested("14 looked for after all lines", |t| match sheet(t) {
+        Err(first) if first.number == BAD_WEIGHT => {
+            let others = changed(t, |t| each_weight(t, |weight| weight.clamp(1, MAX_WEIGHT)));
+            Err(others.err().unwrap_or(first))
+        }
+        other => other,
+    }),
+    tested("14 told as 6", |t| sheet(t).map_err(|mut refusal| {
+        if refusal.number == BAD_WEIGHT {
+            refusal.number = BAD_FIELD;
+        }
+        refusal
+    })),
+    tested("the weight left out", |t| sheet(t).map(|bytes| each_wish(bytes, |line| {
+        line[AT_WEIGHT..LINE - 1].copy_from_slice(b"    0");
+    }))),
+    tested("the weight in the place of the third literal", |t| sheet(t).map(|bytes| {
+        each_wish(bytes, |line| line[AT_WEIGHT - COLUMNS..LINE - 1].rotate_left(COLUMNS))
+    })),
+    tested("the weight of the wish before", |t| sheet(t).map(|bytes| {
+        let mut before = *b"    1";
+        each_wish(bytes, |line| before.swap_with_slice(&mut line[AT_WEIGHT..LINE - 1]))
     })),
     tested("a fault let through as a switch", |t| changed(t, |t| each_literal(t, |t, word| {
         let inputs = t.switches.saturating_add(t.faults);
@@ -98,7 +147,7 @@ const WRONG: [Wrong; 26] = [
     })),
     tested("the last line counts itself", |t| sheet(t).map(|mut bytes| {
         let before = bytes.len() - LINE;
-        let end = line('Z', [(bytes.len() / LINE) as i32, 0, 0]);
+        let end = line('Z', &[(bytes.len() / LINE) as i32]);
         bytes[before..].copy_from_slice(end.as_bytes());
         bytes
     })),
@@ -123,7 +172,7 @@ const WRONG: [Wrong; 26] = [
     }),
     placed("the first line written before the others are tested", |t, outcome, out| {
         if matches!(outcome, Err(refusal) if refusal.number != BAD_SIZE) && out.len() >= LINE {
-            let head = line('H', [t.switches as i32, t.faults as i32, 0]);
+            let head = line('H', &[t.switches as i32, t.faults as i32]);
             out[..LINE].copy_from_slice(head.as_bytes());
         }
         put(outcome, out)
@@ -160,9 +209,38 @@ fn each_kind(tables: &mut Tables, change: fn(u32) -> u32) {
 
 fn each_literal(tables: &mut Tables, change: fn(&Tables, u32) -> u32) {
     let before = tables.clone();
-    for word in tables.wish.as_flattened_mut() {
+    let wishes = tables.wish.iter_mut();
+    for word in wishes.flat_map(|wish| &mut wish[..LITERALS]) {
         *word = change(&before, *word);
     }
+}
+
+fn each_weight(tables: &mut Tables, change: fn(u32) -> u32) {
+    for wish in &mut tables.wish {
+        wish[WEIGHT] = change(wish[WEIGHT]);
+    }
+}
+
+/// Where the weight begins on a line.
+const AT_WEIGHT: usize = 1 + WEIGHT * COLUMNS;
+
+/// A sheet with its wishes' lines changed.
+fn each_wish(mut bytes: Vec<u8>, change: impl FnMut(&mut [u8])) -> Vec<u8> {
+    let lines = bytes.chunks_mut(LINE);
+    lines.filter(|line| line[0] == b'W').for_each(change);
+    bytes
+}
+
+fn fourteen_before_six(tables: &Tables) -> Outcome {
+    sheet(tables).map_err(|mut refusal| {
+        let before = 1 + tables.gates as usize + tables.rules as usize;
+        let wish = refusal.place.checked_sub(before + 1);
+        let wrong = |wish: usize| !WEIGHTS.contains(&tables.wish[wish][WEIGHT]);
+        if refusal.number == BAD_FIELD && wish.is_some_and(wrong) {
+            refusal.number = BAD_WEIGHT;
+        }
+        refusal
+    })
 }
 
 fn limits_first(tables: &Tables) -> Outcome {
@@ -221,9 +299,7 @@ fn wrong_writers_show() {
         let tables = made_tables(3, index).tables;
         let trial = Trial::new(&mut Random::new(!3, index), &tables);
         for (wrong, count) in WRONG.iter().zip(&mut counts) {
-            let given = (wrong.sheet)(&tables);
-            let mut writer = |out: &mut [u8]| (wrong.put)(&tables, &given, out);
-            *count += usize::from(trial.differs(&mut writer).is_some());
+            *count += usize::from(wrong.shows(&tables, &trial));
         }
         let mut right = |out: &mut [u8]| put(&trial.outcome, out);
         assert_eq!(trial.differs(&mut right), None, "{index}");
@@ -247,10 +323,8 @@ const MOST_OF_FULL_ONES: usize = 2 * MAX_GATES + MOST_WORDS;
 fn wrong_writers_are_shrunk() {
     for wrong in &WRONG {
         let shows = |index: u64, tables: &Tables| {
-            let given = (wrong.sheet)(tables);
             let trial = Trial::new(&mut Random::new(!3, index), tables);
-            let mut writer = |out: &mut [u8]| (wrong.put)(tables, &given, out);
-            trial.differs(&mut writer).is_some()
+            wrong.shows(tables, &trial)
         };
         let most = match wrong.name {
             "the count cut to the room" | "6 before 5 on a line" => MOST_OF_FULL_ONES,
