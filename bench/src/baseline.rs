@@ -4,11 +4,11 @@
 
 use comzsered::figures::{Found, Rated};
 use comzsered::Input;
-use planner_tests::oracle::{Gate, Sheet};
+use planner_tests::oracle::{Gate, Sheet, Wish};
 
 use crate::typed;
 
-const LINE: usize = 17;
+const LINE: usize = 22;
 const MAX_LINES: usize = 530;
 
 /// A sheet's tables, a column for each field.
@@ -20,6 +20,7 @@ pub struct Tables {
     pub right: Vec<u32>,
     pub rules: Vec<u32>,
     pub wishes: Vec<[i32; 3]>,
+    pub weights: Vec<u32>,
 }
 
 impl Tables {
@@ -33,6 +34,7 @@ impl Tables {
             right: Vec::with_capacity(gates),
             rules: Vec::with_capacity(64),
             wishes: Vec::with_capacity(64),
+            weights: Vec::with_capacity(64),
         }
     }
 
@@ -43,13 +45,16 @@ impl Tables {
             left: self.left[i],
             right: self.right[i],
         };
-        let literals = |wish: &[i32; 3]| wish.iter().copied().filter(|&l| l != 0).collect();
+        let wish = |i: usize| Wish {
+            literals: self.wishes[i].into_iter().filter(|&l| l != 0).collect(),
+            weight: self.weights[i],
+        };
         Sheet {
             switches: self.a,
             faults: self.f,
             gates: (0..self.kind.len()).map(gate).collect(),
             rules: self.rules.clone(),
-            wishes: self.wishes.iter().map(literals).collect(),
+            wishes: (0..self.wishes.len()).map(wish).collect(),
         }
     }
 }
@@ -87,12 +92,16 @@ fn part(letter: u8) -> Option<u32> {
     }
 }
 
-fn line(bytes: &[u8]) -> Option<(u8, u32, i32, i32, i32)> {
+/// The letter with its part, and the numbers.
+fn line(bytes: &[u8]) -> Option<(u8, u32, [i32; 4])> {
     let part = part(bytes[0])?;
-    let first = number(&bytes[1..6])?;
-    let second = number(&bytes[6..11])?;
-    let third = number(&bytes[11..16])?;
-    (bytes[16] == b'\n').then_some((bytes[0], part, first, second, third))
+    let numbers = [
+        number(&bytes[1..6])?,
+        number(&bytes[6..11])?,
+        number(&bytes[11..16])?,
+        number(&bytes[16..21])?,
+    ];
+    (bytes[21] == b'\n').then_some((bytes[0], part, numbers))
 }
 
 /// The column at which a malformed line stops being the beginning of any well-formed line.
@@ -101,7 +110,7 @@ fn column(bytes: &[u8]) -> usize {
     if part(bytes[0]).is_none() {
         return 1;
     }
-    for start in [1, 6, 11] {
+    for start in [1, 6, 11, 16] {
         let field = &bytes[start..start + 5];
         if number(field).is_none() {
             return start + 1 + right_bytes(field);
@@ -143,7 +152,7 @@ fn read_sheet(bytes: &[u8]) -> Result<Tables, Refusal> {
     let mut part_before = 0;
     for (before, bytes) in bytes.chunks_exact(LINE).enumerate() {
         let place = before + 1;
-        let Some((letter, part, p, q, r)) = line(bytes) else {
+        let Some((letter, part, [p, q, r, w])) = line(bytes) else {
             return Err((2, place, column(bytes)));
         };
         let (first, last) = (before == 0, place == lines);
@@ -164,19 +173,19 @@ fn read_sheet(bytes: &[u8]) -> Result<Tables, Refusal> {
                 }
                 (t.a, t.f) = (p as u32, q as u32);
                 full = false;
-                fits = r == 0;
+                fits = r == 0 && w == 0;
             }
             b'N' => {
                 full = t.kind.len() == 400;
-                fits = is_point(p) && q == 0 && r == 0;
+                fits = is_point(p) && q == 0 && r == 0 && w == 0;
             }
             b'A' | b'O' => {
                 full = t.kind.len() == 400;
-                fits = is_point(p) && is_point(q) && r == 0;
+                fits = is_point(p) && is_point(q) && r == 0 && w == 0;
             }
             b'R' => {
                 full = t.rules.len() == 64;
-                fits = is_point(p) && q == 0 && r == 0;
+                fits = is_point(p) && q == 0 && r == 0 && w == 0;
             }
             b'W' => {
                 full = t.wishes.len() == 64;
@@ -185,7 +194,7 @@ fn read_sheet(bytes: &[u8]) -> Result<Tables, Refusal> {
             }
             _ => {
                 full = false;
-                fits = q == 0 && r == 0;
+                fits = q == 0 && r == 0 && w == 0;
             }
         }
         if full {
@@ -201,7 +210,11 @@ fn read_sheet(bytes: &[u8]) -> Result<Tables, Refusal> {
                 t.right.push(q as u32);
             }
             b'R' => t.rules.push(p as u32),
-            b'W' => t.wishes.push([p, q, r]),
+            b'W' if !(1..=999).contains(&w) => return Err((14, place, 0)),
+            b'W' => {
+                t.wishes.push([p, q, r]);
+                t.weights.push(w as u32);
+            }
             b'Z' if p != before as i32 => return Err((7, place, 0)),
             _ => {}
         }
@@ -211,7 +224,7 @@ fn read_sheet(bytes: &[u8]) -> Result<Tables, Refusal> {
 
 // ---- what a plan means
 
-/// How the cost of a plan is counted.
+/// How the cost of a plan is added up.
 pub trait Cost {
     fn cost(&self, plan: u32) -> u32;
 }
@@ -220,17 +233,20 @@ pub trait Cost {
 struct Literals<'t> {
     a: u32,
     wishes: &'t [[i32; 3]],
+    weights: &'t [u32],
 }
 
 impl Cost for Literals<'_> {
     fn cost(&self, plan: u32) -> u32 {
         let holds = |l: &i32| *l != 0 && (plan >> (self.a - l.unsigned_abs()) & 1 == 1) == (*l > 0);
-        self.wishes.iter().filter(|w| !w.iter().any(holds)).count() as u32
+        let wishes = self.wishes.iter().zip(self.weights);
+        let broken = wishes.filter(|(wish, _)| !wish.iter().any(holds));
+        broken.map(|(_, weight)| weight).sum()
     }
 }
 
-/// A wish as two masks: the switches that should be on, and those that should be off.
-struct Masks(Vec<(u32, u32)>);
+/// A wish as two masks, the switches that should be on and those that should be off, and its weight.
+struct Masks(Vec<(u32, u32, u32)>);
 
 impl Masks {
     fn new(t: &Tables) -> Masks {
@@ -238,14 +254,16 @@ impl Masks {
             let of_sign = w.iter().filter(|&&l| l * sign > 0);
             of_sign.fold(0, |m, l| m | 1 << (t.a - l.unsigned_abs()))
         };
-        Masks(t.wishes.iter().map(|w| (mask(w, 1), mask(w, -1))).collect())
+        let wishes = t.wishes.iter().zip(&t.weights);
+        let masks = wishes.map(|(w, &weight)| (mask(w, 1), mask(w, -1), weight));
+        Masks(masks.collect())
     }
 }
 
 impl Cost for Masks {
     fn cost(&self, plan: u32) -> u32 {
-        let broken = |&&(on, off): &&(u32, u32)| (plan & on) | (!plan & off) == 0;
-        self.0.iter().filter(broken).count() as u32
+        let broken = |&&(on, off, _): &&(u32, u32, u32)| (plan & on) | (!plan & off) == 0;
+        self.0.iter().filter(broken).map(|wish| wish.2).sum()
     }
 }
 
@@ -399,6 +417,7 @@ impl Tables {
         Literals {
             a: self.a,
             wishes: &self.wishes,
+            weights: &self.weights,
         }
     }
 }

@@ -1,6 +1,7 @@
 //! The families of sheets. A sheet follows from its family, its sizes and its seed alone.
 
 use planner_tests::generate::Random;
+use planner_tests::oracle::{COLUMNS, LINE, MAX_WEIGHT};
 
 /// A sheet being made. Points are numbered as on the sheet.
 pub struct Draft {
@@ -8,7 +9,10 @@ pub struct Draft {
     pub f: u32,
     gates: Vec<(char, u32, u32)>,
     rules: Vec<u32>,
-    wishes: Vec<[i32; 3]>,
+    /// Literals and weight.
+    wishes: Vec<[i32; 4]>,
+    /// The numbers for the weights alone: so rules and literals do not depend on them.
+    weights: Random,
 }
 
 /// A sheet, and a plan that it makes sound (if its family has one).
@@ -30,6 +34,7 @@ impl Draft {
             gates: Vec::new(),
             rules: Vec::new(),
             wishes: Vec::new(),
+            weights: Random::new(1, 10),
         }
     }
 
@@ -56,6 +61,12 @@ impl Draft {
 
     fn leaf(&self, r: &mut Random) -> u32 {
         1 + r.below((self.a + self.f) as usize) as u32
+    }
+
+    /// A wish of any weight.
+    fn wish(&mut self, [l1, l2, l3]: [i32; 3]) {
+        let weight = self.weights.between(1, MAX_WEIGHT as i32);
+        self.wishes.push([l1, l2, l3, weight]);
     }
 
     /// A random tree of so many gates.
@@ -90,22 +101,18 @@ impl Draft {
     fn done(self, plan: u32) -> Sheet {
         assert!(self.gates.len() <= 400 && self.rules.len() <= 64 && self.wishes.len() <= 64);
         assert!(self.tree_like(), "a gate is not named exactly once");
-        let mut text = String::new();
-        let mut line = |letter: char, p: i32, q: i32, r: i32| {
-            text += &format!("{letter}{p:>5}{q:>5}{r:>5}\n");
-        };
-        line('H', self.a as i32, self.f as i32, 0);
+        let mut text = line('H', [self.a as i32, self.f as i32, 0, 0]);
         for &(letter, left, right) in &self.gates {
-            line(letter, left as i32, right as i32, 0);
+            text += &line(letter, [left as i32, right as i32, 0, 0]);
         }
         for &rule in &self.rules {
-            line('R', rule as i32, 0, 0);
+            text += &line('R', [rule as i32, 0, 0, 0]);
         }
-        for &[l1, l2, l3] in &self.wishes {
-            line('W', l1, l2, l3);
+        for &wish in &self.wishes {
+            text += &line('W', wish);
         }
         let before = 1 + self.gates.len() + self.rules.len() + self.wishes.len();
-        line('Z', before as i32, 0, 0);
+        text += &line('Z', [before as i32, 0, 0, 0]);
         Sheet {
             bytes: text.into_bytes(),
             a: self.a,
@@ -116,6 +123,11 @@ impl Draft {
             plan,
         }
     }
+}
+
+fn line(letter: char, numbers: [i32; 4]) -> String {
+    let numbers = numbers.map(|n| format!("{n:>COLUMNS$}")).concat();
+    format!("{letter}{numbers}\n")
 }
 
 fn on(plan: u32, a: u32, switch: u32) -> bool {
@@ -169,7 +181,7 @@ fn some_wishes(r: &mut Random, d: &mut Draft, plan: u32, count: usize) {
                 -(k as i32)
             };
         }
-        d.wishes.push(wish);
+        d.wish(wish);
     }
 }
 
@@ -241,13 +253,13 @@ pub fn lanes(count: u32) -> Sheet {
         let [pad, spare, button, battery, radio] =
             [pad, spare, button, battery, radio].map(|k| k as i32);
         d.wishes.extend([
-            [pad, 0, 0],
-            [-spare, 0, 0],
-            [-button, 0, 0],
-            [-battery, 0, 0],
-            [radio, 0, 0],
-            [-button, 0, 0],
-            [-spare, -button, 0],
+            [pad, 0, 0, 1],
+            [-spare, 0, 0, 1],
+            [-button, 0, 0, 1],
+            [-battery, 0, 0, 1],
+            [radio, 0, 0, 1],
+            [-button, 0, 0, 1],
+            [-spare, -button, 0, 1],
         ]);
     }
     d.done(0)
@@ -372,7 +384,7 @@ pub fn conflicts(seed: u64, a: u32, f: u32) -> Sheet {
             let k = r.between(1, a as i32);
             *literal = if r.one_in(2) { k } else { -k };
         }
-        d.wishes.push(wish);
+        d.wish(wish);
     }
     d.done(plan)
 }
@@ -381,17 +393,16 @@ pub fn conflicts(seed: u64, a: u32, f: u32) -> Sheet {
 pub fn full(seed: u64) -> Sheet {
     let mut sheet = rated(seed, 20, 16, 64, 400);
     let r = &mut Random::new(seed, 7);
-    let before = sheet.bytes.len() - 17;
+    let before = sheet.bytes.len() - LINE;
     sheet.bytes.truncate(before);
     for _ in sheet.wishes..64 {
         let k = r.between(1, 20);
+        let (third, weight) = (r.between(1, 20), r.between(1, MAX_WEIGHT as i32));
         sheet
             .bytes
-            .extend(format!("W{:>5}{:>5}{:>5}\n", -k, k, r.between(1, 20)).bytes());
+            .extend(line('W', [-k, k, third, weight]).bytes());
     }
     sheet.wishes = 64;
-    sheet
-        .bytes
-        .extend(format!("Z{:>5}{:>5}{:>5}\n", 529, 0, 0).bytes());
+    sheet.bytes.extend(line('Z', [529, 0, 0, 0]).bytes());
     sheet
 }

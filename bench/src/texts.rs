@@ -1,7 +1,7 @@
 //! Typed texts of a given length, for the reading alone.
 
 use planner_tests::generate::Random;
-use planner_tests::oracle::{MAX_GATES, MAX_RULES, MAX_WISHES};
+use planner_tests::oracle::{MAX_GATES, MAX_RULES, MAX_WEIGHT, MAX_WISHES};
 
 use crate::sheets::Sheet;
 
@@ -9,6 +9,8 @@ const SWITCHES: i32 = 20;
 const FAULTS: i32 = 16;
 /// The brackets around an operand at most, so that a few stand around the rule besides.
 const BRACKETS: usize = 24;
+/// The longest wish: three literals and a weight.
+const WISH: usize = "wish !s20 !s20 !s20 weight 999\n".len();
 
 /// A text being made, of the length that is wanted.
 struct Draft {
@@ -64,11 +66,13 @@ impl Draft {
     }
 
     fn wish(&mut self, r: &mut Random) {
-        if self.left() < 20 {
+        if self.left() < WISH {
             return;
         }
         let mut literal = || format!("!s{}", r.between(1, SWITCHES));
-        self.text += &format!("wish {} {} {}\n", literal(), literal(), literal());
+        let literals = [literal(), literal(), literal()].join(" ");
+        let weight = r.between(1, MAX_WEIGHT as i32);
+        self.text += &format!("wish {literals} weight {weight}\n");
         self.wishes += 1;
     }
 
@@ -91,7 +95,7 @@ impl Draft {
 pub fn accepted(length: usize) -> Sheet {
     let r = &mut Random::new(1, 8);
     let mut draft = Draft::new(length);
-    let wishes = MAX_WISHES * 19;
+    let wishes = MAX_WISHES * WISH;
     for rule in 0..MAX_RULES {
         // The bytes for each rule that is still to come, and for each of its five operands.
         let share = (draft.left() - wishes) / (MAX_RULES - rule) - 6;

@@ -8,6 +8,7 @@ const MAX_DEPTH: usize = 32;
 const MAX_GATES: usize = 400;
 const MAX_RULES: usize = 64;
 const MAX_WISHES: usize = 64;
+const MAX_WEIGHT: u32 = 999;
 
 /// The byte at `at` is the first that is wrong.
 struct Wrong;
@@ -19,8 +20,9 @@ struct Parser<'t> {
     depth: usize,
     /// All gates, also those beyond the table's room.
     gates: usize,
-    /// Whether this line names a switch or a fault that there is not.
+    /// Whether this line names a switch or a fault that there is not, and whether its weight is not allowed.
     beyond: bool,
+    bad_weight: bool,
 }
 
 /// The tables, or the refusal.
@@ -35,6 +37,7 @@ pub fn read(bytes: &[u8]) -> Result<Tables, Refusal> {
         depth: 0,
         gates: 0,
         beyond: false,
+        bad_weight: false,
     };
     match parser.text() {
         Err(Wrong) => Err((12, parser.at + 1, 0)),
@@ -84,6 +87,7 @@ impl Parser<'_> {
         while let Some(byte) = self.peek() {
             line += 1;
             self.beyond = false;
+            self.bad_weight = false;
             let full = match byte {
                 b'r' if wishes == 0 => {
                     self.rule()?;
@@ -98,9 +102,10 @@ impl Parser<'_> {
                 _ => return Err(Wrong),
             };
             if fault.is_none() {
-                fault = match (full, self.beyond) {
-                    (true, _) => Some((5, line, 0)),
-                    (_, true) => Some((6, line, 0)),
+                fault = match (full, self.beyond, self.bad_weight) {
+                    (true, _, _) => Some((5, line, 0)),
+                    (_, true, _) => Some((6, line, 0)),
+                    (_, _, true) => Some((14, line, 0)),
                     _ => None,
                 };
             }
@@ -221,17 +226,44 @@ impl Parser<'_> {
     fn wish(&mut self) -> Result<(), Wrong> {
         self.word(b"wish ")?;
         let mut wish = [self.literal()?, 0, 0];
-        for literal in &mut wish[1..] {
-            if !self.space() {
+        let mut weight = 1;
+        let mut literals = 1;
+        while self.space() {
+            if literals == wish.len() || self.peek() == Some(b'w') {
+                self.word(b"weight ")?;
+                weight = self.weight()?;
                 break;
             }
-            *literal = self.literal()?;
+            wish[literals] = self.literal()?;
+            literals += 1;
         }
         self.expect(b'\n')?;
+        self.bad_weight = !(1..=MAX_WEIGHT).contains(&weight);
         if self.tables.wishes.len() < MAX_WISHES {
             self.tables.wishes.push(wish);
+            self.tables.weights.push(weight);
         }
         Ok(())
+    }
+
+    /// 0 to 9999.
+    fn weight(&mut self) -> Result<u32, Wrong> {
+        if self.peek() == Some(b'0') {
+            self.at += 1;
+            return Ok(0);
+        }
+        let rest = &self.bytes[self.at..];
+        let digits = rest.iter().take(4).take_while(|b| b.is_ascii_digit());
+        let (mut weight, mut length) = (0, 0);
+        for digit in digits {
+            weight = 10 * weight + u32::from(digit - b'0');
+            length += 1;
+        }
+        self.at += length;
+        match length {
+            0 => Err(Wrong),
+            _ => Ok(weight),
+        }
     }
 
     fn literal(&mut self) -> Result<i32, Wrong> {

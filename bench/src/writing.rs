@@ -2,8 +2,8 @@
 
 use comzsered::figures::{Words, Written};
 use planner_tests::oracle::{
-    BAD_FIELD, BAD_SIZE, COLUMNS, LINE, MAX_FAULTS, MAX_GATES, MAX_RULES, MAX_SWITCHES, MAX_WISHES,
-    TOO_MANY,
+    BAD_FIELD, BAD_SIZE, BAD_WEIGHT, COLUMNS, FIELDS, LINE, MAX_FAULTS, MAX_GATES, MAX_RULES,
+    MAX_SWITCHES, MAX_WISHES, TOO_MANY, WEIGHTS,
 };
 use planner_tests::writing::TOO_SHORT;
 
@@ -26,7 +26,7 @@ pub fn write(t: &Words, out: &mut [u8]) -> Written {
         return refused(TOO_SHORT, 0);
     }
     let mut rest = out.chunks_exact_mut(LINE);
-    let mut put = |letter: u8, fields: [i32; 3]| {
+    let mut put = |letter: u8, fields: [i32; FIELDS]| {
         if let Some(line) = rest.next() {
             line[0] = letter;
             for (field, n) in line[1..].chunks_exact_mut(COLUMNS).zip(fields) {
@@ -35,17 +35,17 @@ pub fn write(t: &Words, out: &mut [u8]) -> Written {
             line[LINE - 1] = b'\n';
         }
     };
-    put(b'H', [t.switches as i32, t.faults as i32, 0]);
+    put(b'H', [t.switches as i32, t.faults as i32, 0, 0]);
     for &[letter, left, right] in &t.gate[..t.gates as usize] {
-        put(letter as u8, [left as i32, right as i32, 0]);
+        put(letter as u8, [left as i32, right as i32, 0, 0]);
     }
     for &rule in &t.rule[..t.rules as usize] {
-        put(b'R', [rule as i32, 0, 0]);
+        put(b'R', [rule as i32, 0, 0, 0]);
     }
-    for wish in &t.wish[..t.wishes as usize] {
-        put(b'W', wish.map(literal));
+    for &[x, y, z, weight] in &t.wish[..t.wishes as usize] {
+        put(b'W', [literal(x), literal(y), literal(z), weight as i32]);
     }
-    put(b'Z', [lines as i32 - 1, 0, 0]);
+    put(b'Z', [lines as i32 - 1, 0, 0, 0]);
     Written {
         number: 0,
         place: 0,
@@ -94,7 +94,8 @@ fn test(t: &Words) -> Result<usize, (u32, usize)> {
         }
         // A literal may be missing only if those after it are.
         let there = |word: u32| 2 <= word && word <= 2 * t.switches + 1;
-        let right = match t.wish[i] {
+        let [x, y, z, weight] = t.wish[i];
+        let right = match [x, y, z] {
             [0, 0, 0] => true,
             [x, 0, 0] => there(x),
             [x, y, 0] => there(x) && there(y),
@@ -102,6 +103,9 @@ fn test(t: &Words) -> Result<usize, (u32, usize)> {
         };
         if !right {
             return Err((BAD_FIELD, line));
+        }
+        if !WEIGHTS.contains(&weight) {
+            return Err((BAD_WEIGHT, line));
         }
     }
     Ok(line + 1)
