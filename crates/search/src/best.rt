@@ -75,7 +75,7 @@ pub fn best_plan(sheet: &Sheet, list: &[u32], last: Option<Candidate>) -> Option
     let mut best = None;
     for i in 0..end {
         let planned = Planned {
-            sheet,
+            sheet: &*sheet,
             plan: Plan(i),
         };
         best = with_plan(planned, list, last, best);

@@ -26,35 +26,35 @@ pub fn valid_gate(words: &Words, i: usize) -> Gate
     gate
 }
 
-// The words of a valid sheet. What stands beyond its counts is ignored.
+// Lent words of a valid sheet. What stands beyond its counts is ignored.
 #[derive(Drop)]
-pub struct Sheet {
-    words: Words,
+pub struct Sheet<'a> {
+    words: &'a Words,
 }
 
-impl Model for Sheet {
+impl<'a> Model for Sheet<'a> {
     ghost use Rattle.scope.specs.Sheet.{Sheet, Valid};
     ghost use Rattle.scope.specs.Words.{held};
 
     ghost Value = { Sheet };
 
-    ghost view = { λ s. held s.words };
+    ghost view = { λ s. held s.words.now };
 
-    ghost invariant = { λ s. Valid (held s.words) };
+    ghost invariant = { λ s. Valid (held s.words.now) };
 }
 
-impl Sheet {
-    pub fn new(words: Words) -> Sheet
-        requires { Valid (held words) }
-        ensures { result ≡ held words }
+impl<'a> Sheet<'a> {
+    pub fn new(words: &'a Words) -> Sheet<'a>
+        requires { Valid (held words.now) }
+        ensures { result ≡ held words.now }
     {
         Sheet { words }
     }
 
-    pub fn words(&self) -> &Words
+    pub fn words(&self) -> &'a Words
         ensures { held result.now ≡ self.now }
     {
-        &self.words
+        self.words
     }
 
     #[tactic(auto, using(crate::specs::Laws::Held::held_gates, crate::specs::Laws::Held::held_rules, crate::specs::Laws::Held::held_wishes))]
@@ -62,7 +62,7 @@ impl Sheet {
         ensures valid { Valid self.now }
         ensures counts { result ≡ counts_from self.now }
     {
-        counts_of(&self.words)
+        counts_of(self.words)
     }
 
     // Gate i, counted from 0, as rules and wishes are.
@@ -70,7 +70,7 @@ impl Sheet {
         requires { i < length self.now.gates }
         ensures { gate_from result ≡ get_or self.now.gates i no_gate }
     {
-        valid_gate(&self.words, i)
+        valid_gate(self.words, i)
     }
 
     #[tactic(auto, using(crate::specs::Laws::Held::held_rules, crate::specs::Laws::Held::held_rule))]
@@ -78,14 +78,14 @@ impl Sheet {
         requires { i < length self.now.rules }
         ensures { result ≡ get_or self.now.rules i 0 }
     {
-        rule_at(&self.words, i)
+        rule_at(self.words, i)
     }
 
     pub fn wish(&self, i: usize) -> Wish
         requires { i < length self.now.wishes }
         ensures { wish_from result ≡ get_or self.now.wishes i no_wish }
     {
-        let [first, second, third, weight] = wish_at(&self.words, i);
+        let [first, second, third, weight] = wish_at(self.words, i);
         Wish {
             clause: [first, second, third].map(Literal::in_code),
             weight,

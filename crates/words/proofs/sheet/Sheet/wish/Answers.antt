@@ -10,7 +10,7 @@ use Rattle.words.proofs.sheet.Sheet.wish.Goals as goal
 
 pub returns : goal.returns
 returns c =
-    let s = c.self.inside.words in
+    let s = c.self.inside.words.now in
     let i = c.args.i in
     let w = c.wish_at.result in
     let n : i < word s 4 = omega (arith, rw (← c.self.view_is) at c.requires, held_wishes s) in
