@@ -31,7 +31,7 @@ impl Outcome {
     }
 
     // The best plan, or that there is none.
-    pub(crate) fn best(best: Option<Candidate>, length: usize) -> Outcome
+    pub fn best(best: Option<Candidate>, length: usize) -> Outcome
         ensures { result_of result ≡ best_figures best length }
     {
         Outcome {

@@ -52,6 +52,7 @@ fn head(outcome: Outcome) -> Head
 
 // Puts the listing of Answer's outcome at the beginning of `out`, and returns its length. (Two arms, each a case of the promise: by `map`
 // the proof would speak of candidates, of a crate that is not rested on.)
+#[inline(never)]
 fn put_answer(sheet: &Sheet, out: &mut [u8]) -> usize
     requires source { Source (accepted sheet.now) }
     requires room { most_output ≤ length out.old }
@@ -83,6 +84,7 @@ fn put_refusal(cause: Cause, out: &mut [u8]) -> usize
 
 // Puts what the program prints at the beginning of `out`, and returns its length. A buffer that is shorter than the longest
 // listing is left as it was, and there is none.
+#[inline(always)]
 pub fn put_output(read: &Result<Sheet, Cause>, out: &mut [u8]) -> Option<usize>
     requires { Source (told read.now) }
     ensures listing { listing_result (unwrap_or result 0) out.new ≡ listing_of (told read.now) out.old }
@@ -100,6 +102,7 @@ pub fn put_output(read: &Result<Sheet, Cause>, out: &mut [u8]) -> Option<usize>
 
 // Puts the sheet, or the listing of a refusal, at the beginning of `out`, and returns its length. A buffer that is shorter than the
 // longest sheet is left as it was, and there is none.
+#[inline(always)]
 pub fn put_sheet(read: &Result<Sheet, Cause>, out: &mut [u8]) -> Option<usize>
     requires { Source (told read.now) }
     ensures sheet { listing_result (unwrap_or result 0) out.new ≡ converted_of (told read.now) out.old }

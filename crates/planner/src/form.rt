@@ -32,6 +32,7 @@ impl Form for Fixed {
 
     ghost source = { λ s r. form_source (scope.Form.sheet s) r };
 
+    #[inline(always)]
     fn read(s: &[u8], words: &mut Words) -> Result<(), Cause> {
         sheet::read(s, words)
     }
@@ -45,6 +46,7 @@ impl Form for Typed {
 
     ghost source = { λ s r. form_source (scope.Form.text s) r };
 
+    #[inline(always)]
     fn read(s: &[u8], words: &mut Words) -> Result<(), Cause> {
         text::read(s, words)
     }

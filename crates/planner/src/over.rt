@@ -15,12 +15,12 @@ use words::refusal::Cause;
 use words::sheet::Sheet;
 use words::{Plan, WORDS, Words};
 
-// The valid sheet that bytes stand for, or the first cause to turn them down.
-fn sheet_of<F: Form>(s: &[u8]) -> Result<Sheet, Cause>
+// The valid sheet that bytes stand for, read into lent words, or the first cause to turn them down.
+#[inline(always)]
+fn sheet_of<'a, F: Form>(s: &[u8], words: &'a mut Words) -> Result<Sheet<'a>, Cause>
     ensures { F.Reading s.now (told result) }
 {
-    let mut words = [0; WORDS];
-    F::read(s, &mut words)?;
+    F::read(s, words)?;
     Ok(Sheet::new(words))
 }
 
@@ -31,37 +31,32 @@ fn sheet_of<F: Form>(s: &[u8]) -> Result<Sheet, Cause>
 pub fn answer<F: Form>(s: &[u8], list: &mut [u32]) -> Outcome
     ensures { IsAnswer (F.Reading s.now) list.old (answer_from result list.new) }
 {
-    match sheet_of::<F>(s) {
-        Ok(sheet) => jobs::answer::answer(&sheet, list),
-        Err(cause) => Outcome::refused(cause, 0),
-    }
+    let mut words = [0; WORDS];
+    jobs::told::answer(&sheet_of::<F>(s, &mut words), list)
 }
 
 // Short run: the best plan that passes the given patterns.
 pub fn short_run<F: Form>(s: &[u8], patterns: &[u32]) -> Outcome
     ensures { IsShortRun (F.Reading s.now) patterns.now (result_of result) }
 {
-    match sheet_of::<F>(s) {
-        Ok(sheet) => jobs::answer::short_run(&sheet, patterns),
-        Err(cause) => Outcome::refused(cause, 0),
-    }
+    let mut words = [0; WORDS];
+    jobs::told::short_run(&sheet_of::<F>(s, &mut words), patterns)
 }
 
 // Rating: what a plan costs, and which pattern it misses first.
 pub fn rate<F: Form>(s: &[u8], plan: Plan) -> Result<Rating, Cause>
     ensures { IsRating (F.Reading s.now) plan.0 (rating_of result) }
 {
-    jobs::rating::rate(&sheet_of::<F>(s)?, plan)
+    let mut words = [0; WORDS];
+    jobs::told::rate(&sheet_of::<F>(s, &mut words), plan)
 }
 
 // Demand 3: Answer, then Short run over what it listed, and over the first `j` words of that.
 pub fn run_pair<F: Form>(s: &[u8], list: &mut [u32], j: usize) -> PairRuns
     ensures { IsPair (F.Reading s.now) list.old j (answer_from result.full list.new) (result_of result.short) (result_of result.front) }
 {
-    match sheet_of::<F>(s) {
-        Ok(sheet) => jobs::pair::run_pair(&sheet, list, j),
-        Err(cause) => PairRuns::refused(cause),
-    }
+    let mut words = [0; WORDS];
+    jobs::told::run_pair(&sheet_of::<F>(s, &mut words), list, j)
 }
 
 // What the program prints, put at the beginning of `out`; its length is returned. A buffer that is shorter than the longest
@@ -70,7 +65,8 @@ pub fn print_listing<F: Form>(s: &[u8], out: &mut [u8]) -> Option<usize>
     ensures listing { IsListing (F.Reading s.now) out.old (listing_result (unwrap_or result 0) out.new) }
     ensures short { is_none result ≡ ltb (length out.old) most_output }
 {
-    put_output(&sheet_of::<F>(s), out)
+    let mut words = [0; WORDS];
+    put_output(&sheet_of::<F>(s, &mut words), out)
 }
 
 // The sheet put at the beginning of `out`, or the lines that tell its refusal; the length is returned. A buffer that is shorter
@@ -79,7 +75,8 @@ pub fn print_sheet<F: Form>(s: &[u8], out: &mut [u8]) -> Option<usize>
     ensures sheet { IsConverted (F.Reading s.now) out.old (listing_result (unwrap_or result 0) out.new) }
     ensures short { is_none result ≡ ltb (length out.old) most_sheet }
 {
-    put_sheet(&sheet_of::<F>(s), out)
+    let mut words = [0; WORDS];
+    put_sheet(&sheet_of::<F>(s, &mut words), out)
 }
 
 // Its tables put into lent ones; after a refusal these are as they were.

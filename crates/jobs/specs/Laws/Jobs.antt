@@ -1,5 +1,5 @@
 -- What follows for a job from what was read. Assumes nothing.
--- A theorem that was given stays, though nothing cites it: `short_refused`, `rating_refused`, `rating_high`, `rating_low`, `high_next`, `high_start`, `answer_run`.
+-- A theorem that was given stays, though nothing cites it: `short_refused`, `rating_refused`, `rating_high`, `rating_low`, `high_of_none`, `high_of_some`, `high_next`, `high_start`, `answer_run`.
 use Rattle.std.specs.Prelude.{ℕ, zero, suc, ◌+◌, ◌≤◌, ◌<◌, List, [], ◌∷◌, ◌≡◌, refl, length, get_or, take, drop, Option, Some, None, MatchOption, Result, Ok, Err, IfOk}
 use Rattle.std.specs.List.{AllWithin, HoldsAt}
 use Rattle.std.proofs.Common.{arith, add-one, sym, ap, ap₂, drop_of_length-le, drop-cons, length-take-le, lt-ltb, le-ltb}
@@ -51,6 +51,13 @@ high_some bound i [] k h g before = absurd (omega arith)
 high_some bound i (q ∷ l) zero h g before = rw (le-ltb q bound g) (ap some (omega arith))
 high_some bound i (q ∷ l) (suc k) h g before =
     rw (lt-ltb q bound (before 0 (omega arith)), ← high_some bound (suc i) l k (omega arith) g (λ m n. before (suc m) (omega arith))) (ap some (omega arith))
+
+-- the position of a place
+pub high_of_none : high_of None ≡ none
+high_of_none = refl
+
+pub high_of_some : (i : ℕ) → high_of (Some i) ≡ some (suc i)
+high_of_some i = refl
 
 -- o is the place that a search of the list finds
 pub high_found : (bound : ℕ) (l : List ℕ) (o : Option ℕ) → MatchOption o (AllWithin (λ q. q < bound) l 0 (length l)) (λ i. (i < length l) × HoldsAt (λ q. bound ≤ q) l i × AllWithin (λ q. q < bound) l 0 i) → high_of o ≡ first_high bound 1 l
