@@ -58,7 +58,8 @@ fn goes_deeper(b: Option<u8>) -> bool
 
 // Nots and brackets together are at most `depth` deep; so many gates stand before it, here and below. (Points, gates and words are no
 // struct: the number of gates grows from operand to operand, and of a struct that is lent each promise would say too that the points stay.
-// So each level asks for what is asked of text, place and gates, `Asked`.)
+// So each level asks for what is asked of text, place and gates, `Asked`.) What a level returns it makes anew, field by field: a copy of the
+// whole copies the bytes between the fields too, which is slower.
 #[cycle(and_level_factor_or_level)]
 fn factor(
     s: &[u8],
@@ -73,7 +74,8 @@ fn factor(
 {
     let b = look(s, at);
     if !goes_deeper(b) {
-        return atom(s, at, c, gates);
+        let a = atom(s, at, c, gates)?;
+        return Ok(Parsed { at: a.at, ..a });
     }
     if depth == 0 {
         return Err(Stuck(at));
@@ -86,7 +88,9 @@ fn factor(
     closed(s, or_level(s, from, depth - 1, c, gates, sheet)?)
 }
 
-// Factors joined by `&`.
+// Factors joined by `&`. Inlined, as each bracket goes through all three levels: with a call, a text that is mostly brackets takes a third
+// longer.
+#[inline(always)]
 #[cycle(and_level_factor_or_level)]
 fn and_level(
     s: &[u8],
@@ -105,7 +109,7 @@ fn and_level(
         let q = factor(s, from, depth, c, p.gates, sheet)?;
         p = p.joined(q, Gate::And(p.point, q.point), c, sheet);
     }
-    Ok(p)
+    Ok(Parsed { at: p.at, ..p })
 }
 
 // These joined by `|`: a formula. The two levels are not one generic function, as the paper asks for a function of each.
@@ -127,5 +131,5 @@ pub fn or_level(
         let q = and_level(s, from, depth, c, p.gates, sheet)?;
         p = p.joined(q, Gate::Or(p.point, q.point), c, sheet);
     }
-    Ok(p)
+    Ok(Parsed { at: p.at, ..p })
 }

@@ -2,9 +2,9 @@
 ghost use Rattle.std.specs.Prelude.{◌≡◌, ◌≤◌, ◌<◌, true, length, take};
 ghost use Rattle.scope.specs.Sheet as scope;
 ghost use Rattle.scope.specs.Sheet.{wish, weighted, most_literals};
-ghost use Rattle.scope.specs.Causes.{clause, weight_on, line_size, length_ok};
+ghost use Rattle.scope.specs.Causes.{clause, started, weight_on, line_size, length_ok};
 ghost use Rattle.scope.specs.Sheets.{SheetRead};
-ghost use Rattle.scope.specs.Words.{literal_code, wish_words};
+ghost use Rattle.scope.specs.Words.{literal_code, wish_words, words_of};
 ghost use Rattle.field.specs.Columns.{number_from};
 ghost use Rattle.words.specs.Entries.{counts_from};
 ghost use Rattle.words.specs.Told.{Fills};
@@ -90,15 +90,17 @@ fn line_in<const N: usize>(bytes: &[u8], place: &Place<N>) -> Result<Line<N>, Ca
     Ok(line)
 }
 
-// The lines of a sheet whose length is right.
+// The lines of a sheet whose length is right, into words of zeros. Not inlined, so that what is around it is: then a caller's own zeros
+// and those of `read_layout` are put once.
+#[inline(never)]
 fn read_lines<const N: usize>(s: &[u8], words: &mut Words) -> Result<(), Cause>
     requires fields { (3 ≤ N) × (N ≤ 4) }
     requires right { length_ok N (length s.now) ≡ true }
+    requires blank { words.old ≡ words_of (started 0 0) }
     ensures { Fills (SheetRead (layout_of N) s.now) result words.new }
 {
     let size = line_size(N);
     let count = s.len() / size;
-    *words = [0; WORDS];
     for (k, bytes) in s.chunks_exact(size).enumerate() {
         let place = Place::<N> {
             before: counts_of(words),
@@ -121,6 +123,7 @@ fn is_length<const N: usize>(bytes: usize) -> bool
 }
 
 // A sheet whose lines have N fields.
+#[inline(always)]
 fn read_layout<const N: usize>(s: &[u8], words: &mut Words) -> Result<(), Cause>
     requires { (3 ≤ N) × (N ≤ 4) }
     ensures { Fills (SheetRead (layout_of N) s.now) result words.new }
@@ -128,11 +131,13 @@ fn read_layout<const N: usize>(s: &[u8], words: &mut Words) -> Result<(), Cause>
     if !is_length::<N>(s.len()) {
         return Err(Cause::at(Refusal::Length, 0));
     }
+    *words = [0; WORDS];
     read_lines::<N>(s, words)
 }
 
 // Fills the words with what a sheet says, or tells the first cause to turn it down. The words are lent: handed back by value, they are
 // copied several times, and Answer of the smallest sheet misses its bar.
+#[inline(always)]
 pub fn read(s: &[u8], words: &mut Words) -> Result<(), Cause>
     ensures { Fills (SheetRead weighted s.now) result words.new }
 {

@@ -19,7 +19,8 @@ use words::{WORDS, Words};
 // The bytes of the longest text.
 pub const MOST_TEXT: usize = 16384;
 
-// All lines of a text that is not too long.
+// All lines of a text that is not too long. Not inlined, so that `read` is: then a caller's own zeros and those of `read` are put once.
+#[inline(never)]
 fn lines_of(s: &[u8], words: &mut Words) -> Result<Lines, Stuck>
     requires { (length s.now ≤ most_text) × (words.old ≡ words_of (started 0 0)) }
     ensures { LinesTold s.now result words.new }
@@ -37,13 +38,15 @@ fn lines_of(s: &[u8], words: &mut Words) -> Result<Lines, Stuck>
 
 // The words of the sheet that a text stands for, or the first cause to turn it down: the place where no legal text goes on, counted
 // from 1, or the first line at fault. The words are lent, as those of `sheet` are.
+#[inline(always)]
 pub fn read(s: &[u8], words: &mut Words) -> Result<(), Cause>
     ensures { Fills (TextRead s.now) result words.new }
 {
+    // At once: behind the test the words would be blanked by the caller as well.
+    *words = [0; WORDS];
     if MOST_TEXT < s.len() {
         return Err(Cause::at(Refusal::Illegal, 0));
     }
-    *words = [0; WORDS];
     match lines_of(s, words) {
         Err(Stuck(at)) => Err(Cause::at(Refusal::Illegal, at + 1)),
         Ok(l) => match l.fault {

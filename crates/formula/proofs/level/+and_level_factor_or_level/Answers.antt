@@ -31,6 +31,9 @@ and_level-returns t c = (c.loop-c.invariant _ (ands_first c.in_ok-p.ensures), eq
 
 -- ---- a factor
 
+pub factor-returns-then-not-goes_deeper : goal.factor-returns-then-not-goes_deeper
+factor-returns-then-not-goes_deeper t c = c.in_ok-a.ensures _ _
+
 pub factor-returns-then-depth-eq0 : goal.factor-returns-then-depth-eq0
 factor-returns-then-depth-eq0 t c = too_deep (deeper_here _ _ c.look-b.result c.look-b.ensures c.goes_deeper.ensures c.if-not-goes_deeper.false) c.requires.within c.if-depth-eq0.true
 
@@ -38,7 +41,7 @@ pub factor-factor-requires : goal.factor-factor-requires
 factor-factor-requires t c = (omega arith, rw c.skip-from.ensures (inner_asked (deeper_here _ _ c.look-b.result c.look-b.ensures c.goes_deeper.ensures c.if-not-goes_deeper.false) c.requires))
 
 pub factor-returns-in_err-p : goal.factor-returns-in_err-p
-factor-returns-in_err-p t c = rw (handed_on _ c.from_residual.ensures.1) (not_stuck _ c.if-depth-eq0.false (not_here _ _ c.look-b.result c.look-b.ensures c.if-eq.ensures) (rw c.skip-from.ensures at c.in_err-p.ensures))
+factor-returns-in_err-p t c = rw (handed_on _ c.from_residual-in_err-p.ensures.1) (not_stuck _ c.if-depth-eq0.false (not_here _ _ c.look-b.result c.look-b.ensures c.if-eq.ensures) (rw c.skip-from.ensures at c.in_err-p.ensures))
 
 pub factor-returns-then-eq : goal.factor-returns-then-eq
 factor-returns-then-eq t c = not_read _ c.if-depth-eq0.false (not_here _ _ c.look-b.result c.look-b.ensures c.if-eq.ensures) c.requires (rw c.skip-from.ensures at c.in_ok-p.ensures) c.with_gate.ensures

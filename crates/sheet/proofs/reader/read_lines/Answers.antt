@@ -4,7 +4,6 @@ use Rattle.std.proofs.lemmas.Result.{err_from_is_err_and}
 use Rattle.scope.specs.Sheets.{SheetRead}
 use Rattle.scope.specs.Words.{held}
 use Rattle.line.specs.Lines.{layout_of}
-use Rattle.words.specs.Laws.Sheets.{zero_words}
 use Rattle.words.specs.Laws.Told.{fills_accepted, fills_refused}
 use Rattle.sheet.proofs.Lines.{begun, few, turned_down, suited, reading, held_valid, held_words, taken_in}
 use Rattle.sheet.proofs.reader.read_lines.Goals as goal
@@ -12,7 +11,7 @@ use Rattle.sheet.proofs.reader.read_lines.Goals as goal
 pub loop-k-init : goal.loop-k-init
 loop-k-init g c =
     let e = c.enumerate-k-items.ensures in
-    rw (c.into_iter-k-iterator.ensures.into_iter_gives, e.count, e.source, c.chunks_exact.ensures.rest) (begun _ _ _ _ c.requires.fields c.requires.right (c.chunks_exact.ensures.size ∙ c.line_size-size.ensures) zero_words)
+    rw (c.into_iter-k-iterator.ensures.into_iter_gives, e.count, e.source, c.chunks_exact.ensures.rest) (begun _ _ _ _ c.requires.fields c.requires.right (c.chunks_exact.ensures.size ∙ c.line_size-size.ensures) c.requires.blank)
 
 pub invariant_of-place : goal.invariant_of-place
 invariant_of-place g c = record { few = few _ _ _ _ _ _ c.loop-k.invariant _ c.counts_of.ensures; fields = c.requires.fields.0 }
