@@ -4,15 +4,16 @@
 ghost use Rattle.std.specs.Prelude.{◌≡◌, ◌≤◌, not, ◌&&◌, eqb};
 ghost use Rattle.scope.specs.Sheet.{Sheet, points, H as Head, R as Rule, W as Wish, Z as End};
 ghost use Rattle.scope.specs.Causes.{gate_tests, is, tests};
+ghost use Rattle.scope.specs.Reading.{tests_of};
 ghost use Rattle.words.specs.Refusals.{Tested};
 ghost use Rattle.words.specs.Entries.{counts_from};
 ghost use Rattle.field.specs.Columns.{number_from};
-ghost use Rattle.line.specs.Lines.{layout_of, letter_from, numbers_from};
+ghost use Rattle.line.specs.Lines.{layout_of, letter_from, line_if_formed, numbers_from};
 ghost use Rattle.causes.specs.Counts.{Few};
 ghost use Rattle.causes.specs.Tests.{tests_from};
 
 use crate::allowed::{are_literals, are_points, are_unused, is_head, is_weight};
-use field::Number;
+use field::{Malformed, Number};
 use line::{Letter, Line};
 use words::counts::Counts;
 use words::limit::{MOST_GATES, MOST_LITERALS, MOST_RULES, MOST_WISHES};
@@ -161,6 +162,16 @@ impl<const N: usize> Place<N> {
             Letter::Rule => self.rule_fault(line),
             Letter::Wish => self.wish_fault(line),
             Letter::End => self.end_fault(line),
+        }
+    }
+
+    // The same of a line as it was read: one that is not formed does not meet the first test.
+    pub fn line_fault(&self, line: &Result<Line<N>, Malformed>) -> Result<(), Refusal>
+        ensures { (t : Sheet) → self.now.before ≡ counts_from t → Tested (tests_of (layout_of N) t self.now.index self.now.last (line_if_formed line.now)) result }
+    {
+        match line {
+            Ok(line) => self.fault(line),
+            Err(_) => Err(Refusal::Malformed),
         }
     }
 }

@@ -26,6 +26,11 @@ all_put out at s n e = rw (← e) (ap (λ r. take at out ++ r ++ drop (at + leng
 pub put_part : (out s : List ℕ) (at k : ℕ) → k ≡ length s → put_mid at k out s ≡ put out at s
 put_part out s at k e = put_mid-paste at k out s s k refl refl e ∙ all_put out at s k (sym e)
 
+-- n bytes at the beginning
+pub put_first : (out s : List ℕ) (n : ℕ) → length s ≡ n → put out 0 s ≡ s ++ drop n out
+unfolding put
+put_first out s n e = rw (zero-add, e) refl
+
 -- as many as the buffer holds
 pub put_whole : (out s : List ℕ) → length s ≡ length out → put out 0 s ≡ s
 unfolding put

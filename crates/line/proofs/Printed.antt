@@ -1,5 +1,5 @@
 -- Numbers put one after another, between a letter and a line feed. Assumes nothing.
-use Rattle.std.specs.Prelude.{ℕ, ◌+◌, ◌*◌, ◌≤◌, ◌<◌, true, false, List, [], ◌∷◌, ◌++◌, ◌≡◌, refl, length, get_or, take, set}
+use Rattle.std.specs.Prelude.{ℕ, ◌+◌, ◌*◌, ◌≤◌, ◌<◌, true, false, List, [], ◌∷◌, ◌++◌, ◌≡◌, refl, length, get_or, take, drop, set}
 use Prim.Native.Char.{code}
 use Rattle.std.proofs.Common.{zero-add, add-one, arith, append_assoc, append-nil, sym, ap, ◌∙◌, length-take-le, take-suc}
 use Rattle.std.proofs.lemmas.List.{length-map, length-set}
@@ -14,7 +14,7 @@ use Rattle.field.specs.Columns.{number_from}
 use Rattle.field.specs.declared.Number as made
 use Rattle.line.specs.Lines.{numbers_from, fields_front}
 use Rattle.line.specs.Laws.Numbers.{number_at}
-use Rattle.line.proofs.Buffers.{put, put_byte, put_part, put_whole, length_put, put_next}
+use Rattle.line.proofs.Buffers.{put, put_byte, put_part, put_first, length_put, put_next}
 use borrow.Rule.Slice.PartMut.{put_mid}
 
 front_line : (xs : List Number) → fields_bytes xs ≡ fields_front xs ++ code "\n" ∷ []
@@ -53,18 +53,18 @@ line_put out o₁ o₂ now at letter n xs f e room a b c =
     c ∙ ap (λ o. put o (at + 1 + n * field_size) (code "\n" ∷ [])) p
     ∙ put_next out at (letter ∷ s) (omega arith) (code "\n" ∷ []) (at + 1 + n * field_size) (omega arith) ∙ ap (λ r. put out at (letter ∷ r)) (sym (front_line xs))
 
--- put into a buffer of as many bytes
-pub line_filled : (out ys : List ℕ) (letter end k : ℕ) (xs : List Number) → Fit xs → length out ≡ line_size (length xs) → end ≡ 0 + 1 + length xs * field_size → k ≡ length xs * field_size → ys ≡ fields_front xs
-    → set (put_mid 1 k (set out 0 letter) ys) end (code "\n") ≡ letter ∷ fields_bytes xs
-line_filled out ys letter end k xs f w e l p =
+-- put at the beginning of a buffer that has room for it
+pub line_first : (out ys : List ℕ) (letter end k n : ℕ) (xs : List Number) → Fit xs → length xs ≡ n → line_size n ≤ length out → end ≡ 0 + 1 + n * field_size → k ≡ n * field_size → ys ≡ fields_front xs
+    → set (put_mid 1 k (set out 0 letter) ys) end (code "\n") ≡ letter ∷ fields_bytes xs ++ drop (line_size n) out
+line_first out ys letter end k n xs f e room h l p =
     let o₁ : List ℕ = set out 0 letter in
     let o₂ : List ℕ = put_mid 1 k o₁ ys in
-    let n : length ys ≡ length xs * field_size = ap length p ∙ length_front xs f in
-    let b : o₂ ≡ put o₁ (0 + 1) (fields_front xs) = put_part o₁ ys 1 k (omega (arith, n, l)) ∙ ap (put o₁ 1) p in
-    let m : length o₂ ≡ length out = ap length b ∙ length_put o₁ (0 + 1) (fields_front xs) (omega (arith, length_front xs f, length-set out 0 letter, w)) ∙ length-set out 0 letter in
-    let d : set o₂ end (code "\n") ≡ put o₂ (0 + 1 + length xs * field_size) (code "\n" ∷ []) = put_byte o₂ end (code "\n") (omega (arith, m, w, e)) ∙ ap (λ j. put o₂ j (code "\n" ∷ [])) e in
-    line_put out o₁ o₂ (set o₂ end (code "\n")) 0 letter (length xs) xs f refl (omega (arith, w)) (put_byte out 0 letter (omega (arith, w))) b d
-    ∙ put_whole out (letter ∷ fields_bytes xs) (omega (arith, length_fields xs f, w))
+    let s : length (fields_front xs) ≡ n * field_size = length_front xs f ∙ ap (λ m. m * field_size) e in
+    let b : o₂ ≡ put o₁ (0 + 1) (fields_front xs) = put_part o₁ ys 1 k (omega (arith, s, ap length p, l)) ∙ ap (put o₁ 1) p in
+    let m : length o₂ ≡ length out = ap length b ∙ length_put o₁ (0 + 1) (fields_front xs) (omega (arith, s, length-set out 0 letter, room)) ∙ length-set out 0 letter in
+    let d : set o₂ end (code "\n") ≡ put o₂ (0 + 1 + n * field_size) (code "\n" ∷ []) = put_byte o₂ end (code "\n") (omega (arith, m, room, h)) ∙ ap (λ j. put o₂ j (code "\n" ∷ [])) h in
+    line_put out o₁ o₂ (set o₂ end (code "\n")) 0 letter n xs f e (omega (arith, room)) (put_byte out 0 letter (omega (arith, room))) b d
+    ∙ put_first out (letter ∷ fields_bytes xs) (line_size n) (omega (arith, length_fields xs f, e))
 
 -- number i of those that the code holds
 module _ (xs : List made.Number) (i : ℕ) (fit : Fit (numbers_from xs)) (h : i < length xs) where

@@ -1,6 +1,6 @@
 -- What the code's lines stand for: in no promise of an exported call. Assumes nothing.
 use Rattle.std.specs.Prelude.{ℕ, ◌+◌, ◌*◌, ◌≤◌, cond, leb, List, [], ◌∷◌, ◌++◌, map, ◌≡◌, Result, Ok, Err}
-use Rattle.std.proofs.Math.Option.{none, some}
+use Rattle.std.proofs.Math.Option.{Option, none, some}
 use Rattle.scope.specs.Sheet as scope
 use Rattle.scope.specs.Sheet.{field_size, field, line}
 use Rattle.scope.specs.Reading.{letter_of, fields_of, line_of, column_of, Stop, fields_begin}
@@ -39,6 +39,11 @@ FieldsRead n t (Err m) = (fields_of n t ≡ none) × (m.column ≤ n * field_siz
 
 abbrev pub line_from : {n : ℕ} → Line n → scope.Line
 line_from l = line (letter_from l.letter) (numbers_from l.numbers)
+
+-- the line that was read, if it is formed
+abbrev pub line_if_formed : {n : ℕ} → Result (Line n) Malformed → Option scope.Line
+line_if_formed (Ok l) = some (line_from l)
+line_if_formed (Err m) = none
 
 -- r is what the line t of n fields holds
 abbrev pub LineRead : (n : ℕ) (t : List ℕ) → Result (Line n) Malformed → Type 0

@@ -1,5 +1,5 @@
-// Putting a line into its bytes.
-ghost use Rattle.std.specs.Prelude.{◌∷◌, ◌≡◌, ◌*◌, length};
+// Putting a line into a buffer.
+ghost use Rattle.std.specs.Prelude.{◌∷◌, ◌++◌, ◌≡◌, ◌≤◌, ◌*◌, length, drop};
 ghost use Rattle.scope.specs.Sheet.{field_size, fields_bytes};
 ghost use Rattle.scope.specs.Causes.{line_size};
 ghost use Rattle.scope.specs.Reading.{Fit};
@@ -30,14 +30,14 @@ fn put_fields(out: &mut [u8], numbers: &[Number])
     }
 }
 
-// Puts a line into its bytes; no `Display`, as a buffer is lent. The letter is a byte, and no `Line` is taken, since the rows of listings
-// have letters of their own.
+// Puts a line at the beginning of a buffer, and leaves the bytes after it; no `Display`, as the buffer is lent. The letter is a byte, and
+// no `Line` is taken, since the rows of listings have letters of their own.
 pub fn put_line(out: &mut [u8], letter: u8, numbers: &[Number])
     requires fit { Fit (numbers_from numbers.now) }
-    requires whole { length out.old ≡ line_size (length numbers.now) }
-    ensures { out.new ≡ letter ∷ fields_bytes (numbers_from numbers.now) }
+    requires room { line_size (length numbers.now) ≤ length out.old }
+    ensures { out.new ≡ letter ∷ fields_bytes (numbers_from numbers.now) ++ drop (line_size (length numbers.now)) out.old }
 {
-    let end = out.len() - 1;
+    let end = 1 + numbers.len() * FIELD_SIZE;
     out[0] = letter;
     put_fields(&mut out[1..end], numbers);
     out[end] = FEED;

@@ -1,6 +1,6 @@
 -- The numbers of a line as the code holds them. Assumes nothing.
 use Rattle.std.specs.Prelude.{ℕ, ◌≤◌, ◌<◌, false, List, ◌≡◌, length, get_or, take}
-use Rattle.std.proofs.Common.{arith, sym, ◌∙◌, length-take-le, get_or-take}
+use Rattle.std.proofs.Common.{arith, sym, ◌∙◌, length-take-le, take-take, get_or-take}
 use Rattle.std.proofs.lemmas.List.{length-map}
 use Rattle.std.proofs.Math.ListN.{get_or-map}
 use Rattle.scope.specs.Sheet.{plus}
@@ -19,3 +19,7 @@ at_numbers n i xs h = number_at i xs ∙ sym (get_or-take n (numbers_from xs) i 
 
 pub length_numbers : (n : ℕ) (xs : List Number) → n ≤ length xs → length (take n (numbers_from xs)) ≡ n
 length_numbers n xs h = length-take-le n (numbers_from xs) (omega (arith, length-map xs number_from))
+
+-- the first m of the first n
+pub front_numbers : (m n : ℕ) (xs : List Number) → m ≤ n → take m (take n (numbers_from xs)) ≡ take m (numbers_from xs)
+front_numbers m n xs h = take-take m n (numbers_from xs) h

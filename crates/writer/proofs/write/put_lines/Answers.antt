@@ -3,6 +3,7 @@ use Rattle.std.proofs.Common.{◌∷◌, arith, sym, subst, ap, ◌∙◌}
 use Rattle.scope.specs.Sheet.{line_bytes, fields_bytes}
 use Rattle.scope.specs.Reading.{Fit}
 use Rattle.line.specs.Lines.{layout_of, numbers_from}
+use Rattle.line.specs.Laws.Lines.{line_fills}
 use Rattle.writer.specs.Laws.Filled.{sized}
 use Rattle.writer.specs.Laws.Printed.{few_lines, needed, need_fits, line_room, line_good, none_put, next_put, all_put}
 use Rattle.writer.proofs.write.put_lines.Goals as goal
@@ -47,7 +48,9 @@ loop-k-preserved g c =
     let s = c.args.lines in
     let z = sized s.fields c.line_size-size.ensures in
     let l = c.at-line in
-    let put = c.put_line.ensures ∙ ap (λ b. b ∷ fields_bytes (numbers_from l.result.numbers)) c.from.ensures ∙ ap line_bytes l.ensures in
+    let b = c.from.result ∷ fields_bytes (numbers_from l.result.numbers) in
+    let filled = line_fills _ b _ _ c.put_line.auto.out c.put_line.ensures (omega arith) in
+    let put = filled ∙ ap (λ b. b ∷ fields_bytes (numbers_from l.result.numbers)) c.from.ensures ∙ ap line_bytes l.ensures in
     (c.loop-k.invariant.0, next_put (layout_of g.row.N) c.args.lines.words.now c.requires.valid _ z c.loop-k.k _ c.loop-k.out c.put_line.new.out (omega arith) (omega arith) c.loop-k.invariant.1 (omega arith) put)
 
 pub returns : goal.returns
