@@ -1,21 +1,38 @@
 // Points: the truth of switches, faults and gates.
 ghost use Rattle.std.specs.Prelude.{◌≡◌, ◌≤◌};
-ghost use Rattle.scope.specs.Sheet.{points, Among};
+ghost use Rattle.scope.specs.Sheet.{most_switches, most_faults, points, Among};
 ghost use Rattle.scope.specs.Meaning.{bits, nth};
 ghost use Rattle.scope.specs.Meaning as meaning;
 
 use crate::planned::Planned;
-use words::Pattern;
 use words::gate::Gate;
+use words::{Pattern, Plan};
 
-// Digit p of n binary digits of a number, the first highest. That p is among n is asked here, and where a switch or a point is named, each
-// of its own n: a type for it would be made of both, by the same test, in every call.
+// Digit p of n binary digits of a number, the first highest. Only the two functions after it call it, so that a plan's number is never
+// taken for a pattern's. That p is among n is asked here, and where a switch or a point is named, each of its own n: a type for it would
+// be made of both, by the same test, in every call.
 #[tactic(auto, using(scope::proofs::Laws::Points::bits_at))]
-pub(crate) fn digit(number: u32, n: u32, p: u32) -> bool
+fn digit(number: u32, n: u32, p: u32) -> bool
     requires { (n ≤ 32) × Among n p }
     ensures { result ≡ nth (bits n number) p }
 {
     (number >> (n - p)) % 2 == 1
+}
+
+// Whether switch k of a is on in a plan.
+pub fn switch_on(plan: Plan, a: u32, k: u32) -> bool
+    requires { (a ≤ most_switches) × Among a k }
+    ensures { result ≡ nth (bits a plan.0) k }
+{
+    digit(plan.0, a, k)
+}
+
+// Whether fault k of f is in a pattern.
+fn fault_on(pattern: Pattern, f: u32, k: u32) -> bool
+    requires { (f ≤ most_faults) × Among f k }
+    ensures { result ≡ nth (bits f pattern.0) k }
+{
+    digit(pattern.0, f, k)
 }
 
 impl Planned<'_> {
@@ -29,11 +46,11 @@ impl Planned<'_> {
         let counts = self.sheet.counts();
         let a = counts.switches;
         if point <= a {
-            return digit(self.plan.0, a, point);
+            return switch_on(self.plan, a, point);
         }
         let inputs = a + counts.faults;
         if point <= inputs {
-            return digit(pattern.0, counts.faults, point - a);
+            return fault_on(pattern, counts.faults, point - a);
         }
         match self.sheet.gate((point - inputs - 1) as usize) {
             Gate::Not(p) => !self.truth(pattern, p),

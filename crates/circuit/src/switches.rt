@@ -5,7 +5,7 @@ ghost use Rattle.scope.specs.Meaning.{bits, nth, keeps};
 ghost use Rattle.words.specs.Entries.{literals_there, clause_there};
 
 use crate::planned::Planned;
-use crate::point::digit;
+use crate::point::switch_on;
 use words::Plan;
 use words::literal::Literal;
 use words::wish::Clause;
@@ -24,7 +24,7 @@ impl Switches {
         requires { Among self.count k }
         ensures { result ≡ nth (bits self.count self.plan.0) k }
     {
-        digit(self.plan.0, self.count, k)
+        switch_on(self.plan, self.count, k)
     }
 
     // Whether there is a literal, and they make it true.

@@ -1,9 +1,11 @@
 // One round of the list rule, and the full run.
-ghost use Rattle.std.specs.Prelude.{◌≡◌};
+ghost use Rattle.std.specs.Prelude.{ℕ, List, ◌≡◌};
 ghost use Rattle.scope.specs.Rule.{missed_by};
+ghost use Rattle.scope.specs.Rule as rule;
 ghost use Rattle.scope.specs.Jobs.{task};
 ghost use Rattle.circuit.specs.Answers.{missed_of};
-ghost use Rattle.search.specs.Answers.{best_of, Ran};
+ghost use Rattle.search.specs.Answers.{best_of, Priced, Ran};
+ghost use Rattle.search.specs.Steps.{Stepped};
 
 use crate::best::{Candidate, best_plan};
 use circuit::planned::Planned;
@@ -22,9 +24,10 @@ pub struct Run {
 }
 
 // The pattern to list next: the smallest that the candidate misses. There is none if there is no candidate,
-// or it is sound.
+// or it is sound. Over any list whose best plan the candidate is, this is a round of the list rule.
 fn next(sheet: &Sheet, candidate: Option<Candidate>) -> Option<Pattern>
-    ensures { missed_of result ≡ missed_by (task sheet.now) (best_of candidate) }
+    ensures missed { missed_of result ≡ missed_by (task sheet.now) (best_of candidate) }
+    ensures stepped { (l : List ℕ) → best_of candidate ≡ rule.best (task sheet.now) l → Priced (task sheet.now) candidate → Stepped (task sheet.now) l candidate result }
 {
     let plan = candidate?.plan;
     Planned { sheet, plan }.first_missed()
