@@ -9,6 +9,10 @@ use denote.Ref.{Bor, MutBor}
 abbrev pub IsInput : Option (List ℕ) → List ℕ → ℕ → Type 0
 IsInput known buffer n = IfSome known (λ s. take n buffer ≡ take (length buffer) s)
 
+-- a function that prints for some bytes may be called with every lent buffer of this length
+abbrev pub MayPrint : (Bor (List ℕ) → MutBor (List ℕ) → Type 0) → ℕ → Type 0
+MayPrint may n = (s : Bor (List ℕ)) (lent : MutBor (List ℕ)) → length lent.now ≡ n → may s lent
+
 -- a function that prints for some bytes, into a lent buffer: how many bytes it may count there, and how it may leave the buffer
 module _ (prints : Bor (List ℕ) → MutBor (List ℕ) → ℕ → MutBor (List ℕ) → Type 0) where
   -- no more bytes than the buffer has

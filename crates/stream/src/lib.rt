@@ -7,10 +7,10 @@
 
 ghost use Rattle.std.specs.Prelude.{IfOk, length};
 ghost use Rattle.std.specs.Io.{ReadsAtMost};
-ghost use Rattle.stream.specs.Streams.{IsInput, StaysWithin, Transformed};
+ghost use Rattle.stream.specs.Streams.{IsInput, MayPrint, StaysWithin, Transformed};
 
 use std::fmt::{self, Display, Formatter};
-use std::io::{self, Eprint, Input, Read, Write};
+use std::io::{self, Eprint, Input, Print, Read, Write};
 
 // Why an input has no answer, or nobody got the whole of it.
 #[derive(Clone, Copy)]
@@ -54,7 +54,7 @@ pub fn transform<R: Read, W: Write, F: Fn(&[u8], &mut [u8]) -> usize>(
     out: &mut [u8],
     print: F,
 ) -> Result<(), Failure>
-    requires may { F.IsAlwaysCallable print }
+    requires may { MayPrint (F.pre print) (length out.old) }
     requires fits { StaysWithin (F.post print) }
     ensures { Transformed (F.post print) (R.remaining input.old) (length bytes.old) out.old (W.contents output.old) (W.contents output.new) result }
 {
@@ -63,20 +63,39 @@ pub fn transform<R: Read, W: Write, F: Fn(&[u8], &mut [u8]) -> usize>(
     output.write_all(&out[..m]).map_err(|_| Failure::Unwritten)
 }
 
-// A program: this from standard input to standard output, of a host that a program alone is handed. A line for people tells of
-// a failure; that it cannot be written is nothing that anybody could be told. It promises nothing, as no contract knows the
-// bytes of standard input and output; what can be said is said of `transform`, and the programs are tested.
-pub fn run<F: Fn(&[u8], &mut [u8]) -> usize>(
-    rt: &HostRuntime,
+// Writes a line for people. That it cannot be written is nothing that anybody could be told.
+fn say<R: Eprint>(rt: &R, failure: Failure) {
+    let _ = rt.eprintln(failure);
+}
+
+// The two ends of a program by themselves, for one that does other work between them. They promise nothing, as no contract knows
+// what was printed.
+
+// Writes all of these bytes to the output, or says that this failed.
+pub fn write_output<R: Print + Eprint>(rt: &R, bytes: &[u8]) {
+    if rt.write_all(bytes).is_err() {
+        say(rt, Failure::Unwritten);
+    }
+}
+
+// Says that there is no answer, as the input was not read to its end.
+pub fn say_unread<R: Eprint>(rt: &R) {
+    say(rt, Failure::Unread);
+}
+
+// A program: this from the input to the output of a host. A line for people tells of a failure. It promises nothing, as no
+// contract knows the bytes of standard input and output; what can be said is said of `transform`, and the programs are tested.
+pub fn run<R: Input + Print + Eprint, F: Fn(&[u8], &mut [u8]) -> usize>(
+    rt: &R,
     bytes: &mut [u8],
     out: &mut [u8],
     print: F,
 )
-    requires may { F.IsAlwaysCallable print }
+    requires may { MayPrint (F.pre print) (length out.old) }
     requires fits { StaysWithin (F.post print) }
 {
     let done = transform(&mut rt.reader(), &mut io::writer(rt), bytes, out, print);
     if let Err(failure) = done {
-        let _ = rt.eprintln(failure);
+        say(rt, failure);
     }
 }

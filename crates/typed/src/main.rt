@@ -3,20 +3,22 @@
 // and standard output written is tested. An input that was not read to its end has no answer.
 #![tactic(auto)]
 
+ghost use Rattle.std.specs.Prelude.{◌≤◌, length};
 ghost use Rattle.scope.specs.Texts.{TextRead};
-ghost use Rattle.scope.specs.Program.{listing_result, IsListing};
+ghost use Rattle.scope.specs.Program.{most_output, listing_result, IsListing};
 
 use planner::{MOST_LISTING, MOST_TEXT, Typed, print_listing};
 
 // One byte more than a text may have, so that a longer one is told.
 const INPUT: usize = MOST_TEXT + 1;
 
-// The buffer is as long as the longest listing, so that there always is one. The programs are this line each, of the form and the output
+// The buffer has room for the longest listing, so that there always is one. The programs are this line each, of the form and the output
 // that they name: no plainer as one function with a name for either.
 fn print(text: &[u8], out: &mut [u8]) -> usize
+    requires { most_output ≤ length out.old }
     ensures { IsListing (TextRead text.now) out.old (listing_result result out.new) }
 {
-    print_listing::<Typed>(text, out).unwrap_or(0)
+    print_listing::<Typed>(text, out).unwrap()
 }
 
 fn main(rt: HostRuntime) {
