@@ -13,7 +13,7 @@ use Rattle.words.specs.Entries.{wish_of_words}
 use Rattle.writer.specs.Tested.{literals_of}
 
 module _ (n : ℕ) where
-  zero_filled : (xs : List Number) → length xs < n → filled n (xs ++ plus 0 ∷ []) ≡ filled n xs
+  pub zero_filled : (xs : List Number) → length xs < n → filled n (xs ++ plus 0 ∷ []) ≡ filled n xs
   zero_filled xs h =
       let e : n - length xs ≡ suc (n - suc (length xs)) = omega arith in
       rw (length_snoc, e, append_assoc)

@@ -58,16 +58,17 @@ module _ (y : Layout) (u : List ℕ) where
     none_put now = let e : 0 * size ≡ 0 = omega arith in ap (λ j. take j now) e
 
     -- and line k is put behind them
-    pub next_put : (k j : ℕ) (now new : List ℕ) → k ≤ before_end u → length now ≡ length (sheet_bytes y (held u)) → Begun k now → length new ≡ size → new ≡ line_bytes (line_at y u k) → Begun (k + 1) (put_mid (k * size) j now new)
+    pub next_put : (k j : ℕ) (now new : List ℕ) → k ≤ before_end u → length (sheet_bytes y (held u)) ≤ length now → Begun k now → length new ≡ size → new ≡ line_bytes (line_at y u k) → Begun (k + 1) (put_mid (k * size) j now new)
     next_put k j now new h room p m q =
         let i : k < length lines = omega (arith, lines_count) in
         let t : take (k + 1) lines ≡ take k lines ++ line_at y u k ∷ [] = ap (λ j. take j lines) (add-one k) ∙ take-suc lines k (line H []) i in
         let e : (k + 1) * size ≡ k * size + size = omega (arith, suc-mul k size) in
         take-put_mid (k * size) j now new ((k + 1) * size) (omega arith) (omega (arith, line_room k h)) ∙ ap₂ (λ a b. a ++ b) p q ∙ sym (ap text t ∙ text_snoc (take k lines) (line_at y u k))
 
-    pub all_put : (k : ℕ) (now : List ℕ) → k ≡ before_end u + 1 → length now ≡ length (sheet_bytes y (held u)) → Begun k now → now ≡ sheet_bytes y (held u)
+    pub all_put : (k : ℕ) (now : List ℕ) → before_end u < k → length now ≡ length (sheet_bytes y (held u)) → Begun k now → now ≡ sheet_bytes y (held u)
     all_put k now h e p =
-        let z : length now ≤ k * size = rw h (omega (arith, needed)) in
+        let i : (before_end u + 1) * size ≤ k * size = mul-le-mul_right size (omega arith) in
+        let z : length now ≤ k * size = omega (arith, needed) in
         sym (take_all (k * size) now z) ∙ p ∙ ap text (take_all k lines (omega (arith, lines_count)))
 
 -- ---- what writing tells: the first cause, 13, or the sheet
