@@ -196,8 +196,8 @@ typedef enum comzsered_number {
 
 /*
  * The stack that a call needs at most, in bytes. This is measured, not proved: the stack below a call was
- * painted, and the lowest changed word sought after it. Most was used by listing, 61 KB on a chain of 400
- * gates of which each names the one before first, and 50 KB by any other call; the rest is margin. The tests
+ * painted, and the lowest changed word sought after it. Most was used by listing, 55 KB on a chain of 400
+ * gates of which each names the one before first, and 38 KB by any other call; the rest is margin. The tests
  * make all their calls on threads with this stack and 12 KB for themselves.
  */
 #define COMZSERED_STACK 65536
